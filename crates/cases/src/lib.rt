@@ -1,0 +1,3 @@
+// What the crates should do, on tables of cases.
+#[cfg(test)]
+mod libraries;

@@ -1,0 +1,9 @@
+pub mod Check
+pub mod Fault
+pub mod Image
+pub mod Laws
+pub mod ModuleFile
+pub mod Patch
+pub mod Refusal
+pub mod RunTable
+pub mod Window
