@@ -58,31 +58,61 @@ NEW[6] = 0x0362D093
 PATCHES = {6: NEW[6], 8: reduce(xor, NEW)}
 
 
+def turn(word):
+    return int.from_bytes(bytes(int(f"{b:08b}"[::-1], 2) for b in word.to_bytes(4, "big")), "big")
+
+
+def show(words):
+    for k in range(0, len(words), 8):
+        print("".join(f" {w:08x}" for w in words[k:k + 8]))
+
+
 def read(data):
+    words = []
     stack = check(patch(window(image(data), 1, 4, 18), PATCHES), 3)
     for p in range(16):
         try:
-            print(f"  place {p:>2}: {stack(p):08x}")
+            words.append(stack(p))
+            print(f"  place {p:>2}: {words[p]:08x}")
         except Fault as fault:
             print(f"  place {p:>2}: no word; fault: {fault.text}")
-            return
+            return words
     print("  the whole file was read")
+    return words
+
+
+def load(words):
+    # A partition of the plane has 160 / 8 = 20 words, more than the file.
+    print(f"Loaded the file into partition 3 of a plane, through a bit-turn layer, which took {min(20, len(words))} words:")
+    show(words)
+    print("In the plane itself they are:")
+    show([turn(w) for w in words])
+    # On the tape a mark goes before the words of each load.
+    free = 20
+    for s in (3, 5):
+        taken = min(free - 1, len(words))
+        free -= 1 + taken
+        print(f"Loaded it into partition {s} of a tape of 20 records, which took {taken} words:")
+        show(words[:taken])
+    if free == 0:
+        print("The tape is spent: partition 3 cannot be opened again, and keeps its words.")
 
 
 def main():
-    words = HEADER + [w for g in GROUPS for w in g + [reduce(xor, g)]]
-    card = b"".join(w.to_bytes(4, "big") for w in words)
+    on_card = HEADER + [w for g in GROUPS for w in g + [reduce(xor, g)]]
+    card = b"".join(w.to_bytes(4, "big") for w in on_card)
     print("Made a module file of 16 words in 2 groups, each with its check word,")
-    print(f"and put it on a card of {len(words)} words, from word 4 on.")
+    print(f"and put it on a card of {len(on_card)} words, from word 4 on.")
     print("Read it through a check layer on a patch layer on a window on the card's image,")
     print(f"with place 6 of the window patched to {PATCHES[6]:08x} and its check word to {PATCHES[8]:08x}:")
-    read(card)
+    words = read(card)
     damaged = bytearray(card)
     damaged[61] ^= 16
     print("Read a copy of the card with one bit of byte 61 flipped:")
     read(bytes(damaged))
     print("Read a copy of the card that was cut off after 82 bytes:")
     read(card[:82])
+    load(words)
 
 
 main()

@@ -1,19 +1,15 @@
 -- Groups that were written with their check words, read through a check layer.
-use mathlib.Core.Path.{_≡_, refl, sym, ap, subst, _∙_}
-use mathlib.Core.Bool.{true, cond}
-use mathlib.Core.List.{List, [], _∷_, _++_, map}
-use Prim.Native.Nat.{ℕ, _+_, _*_, _/_, _%_, _<_}
+use mathlib.Core.Path.{_≡_, refl, sym, ap, _∙_}
+use mathlib.Core.List.{List, [], _∷_, map}
+use Prim.Native.Nat.{ℕ, _+_, _/_, _%_, _<_}
 use native.Mathlib.Omega.{arith}
-use lib.Dec.{eqb}
-use lib.ListN.{getD, length, take}
+use lib.ListN.{getD, length}
 use Rattle.std.proofs.shelf.Counted.{getD-map-counting}
 use Rattle.std.proofs.shelf.Lists.{ext-getD, getD-append-left, getD-map, getD-push, length-map, length-push, take-at}
 use Rattle.std.proofs.shelf.Tests.{cond-true, eq-eqb}
-use Rattle.std.specs.declared.result.Result.{Result}
 use Rattle.std.specs.declared.result.Result.the-variants.{Ok}
 use Rattle.std.specs.Joined.{joined}
-use Rattle.library.specs.declared.fault.Fault.{Fault}
-use Rattle.library.specs.Check.{after-word, all-words, checked, group-cells, group-fits, group-start, group-word, xor-all}
+use Rattle.library.specs.Check.{after-word, all-words, group-cells, group-start, group-word, xor-all}
 use Rattle.library.specs.Fault.{Cell}
 use Rattle.library.specs.Laws.{ReadsBack}
 use Rattle.library.specs.ModuleFile.{group-words}

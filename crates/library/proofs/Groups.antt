@@ -1,9 +1,9 @@
 -- What the check layer's answers say of the groups below.
-use mathlib.Core.Path.{_≡_, refl, sym, ap, subst, _∙_}
+use mathlib.Core.Path.{_≡_, refl, sym, ap, _∙_}
 use mathlib.Core.Bool.{Bool, true, false, cond}
 use mathlib.Core.List.{List, [], _∷_, map}
 use mathlib.Core.Logic.{_≢_, _⊎_, inl, inr}
-use Prim.Native.Nat.{ℕ, zero, suc, _+_, _%_, _≤_, _<_}
+use Prim.Native.Nat.{ℕ, zero, suc, _+_, _%_, _<_}
 use native.Mathlib.Omega.{arith}
 use lib.Bits.{bitXor, xor-assoc, xor-comm, xor-self, xor-zero-l, xor-zero-r}
 use lib.Dec.{eqb}
@@ -22,7 +22,7 @@ use Rattle.library.specs.declared.fault.Cause.{Cause}
 use Rattle.library.specs.declared.fault.Cause.the-variants.{BeyondEnd, CheckFailed}
 use Rattle.library.specs.Check.{after-word, all-words, checked, group-cells, group-fits, group-start, group-word, xor-all}
 use Rattle.library.specs.Fault.{Cell, faulty}
-use Rattle.library.specs.Laws.{Cancels, PassesFaults, Sound, first-fault}
+use Rattle.library.specs.Laws.{PassesFaults, Sound, first-fault}
 
 -- Cells that are read one after another: all are words, or there is a first fault.
 data Read : List Cell → Option Fault → Result (List ℕ) Fault → Type 0 where

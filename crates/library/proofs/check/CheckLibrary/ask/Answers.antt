@@ -1,7 +1,7 @@
 use mathlib.Core.Path.{sym, subst, _∙_}
 use borrow.Author.Needs.{needs}
 use Rattle.library.specs.Check.{check-reads}
-use Rattle.library.specs.Fault.{Cell, above}
+use Rattle.library.specs.Fault.{above}
 use Rattle.library.specs.Laws.{PassesFaults}
 use Rattle.library.proofs.Groups.{passes-faults, sound}
 use Rattle.library.proofs.check.CheckLibrary.ask.Needs as need

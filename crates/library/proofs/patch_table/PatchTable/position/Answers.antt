@@ -1,5 +1,4 @@
 use mathlib.Core.Path.{sym, _∙_}
-use native.Mathlib.Omega.{arith}
 use borrow.Author.Needs.{needs}
 use Rattle.library.specs.Patch.{keeping}
 use Rattle.library.proofs.Entries.{none-left, passed, reached}

@@ -1,0 +1,12 @@
+pub mod Bits
+pub mod Exchange
+pub mod Histories
+pub mod Loads
+pub mod Marked
+pub mod Places
+pub mod Planes
+pub mod Scans
+pub mod Stores
+pub mod Tapes
+pub mod Turned
+pub mod Turns

@@ -1,0 +1,10 @@
+pub mod BitTurn
+pub mod Held
+pub mod Load
+pub mod Marks
+pub mod Meaning
+pub mod Plane
+pub mod Scan
+pub mod Steps
+pub mod Tape
+pub mod Turn
