@@ -31,12 +31,12 @@ const GROUPS: [[u32; 8]; 2] = [
 ];
 
 // A new word for place 6 of the file, and with it the check word of its group.
-pub const NEW_WORD: u32 = 0x0362_d093;
+pub(crate) const NEW_WORD: u32 = 0x0362_d093;
 
-pub const NEW_CHECK_WORD: u32 = 0x4605_5a0c;
+pub(crate) const NEW_CHECK_WORD: u32 = 0x4605_5a0c;
 
 // The header, and behind it the file with its check words.
-pub fn card_bytes(heap: Global) -> Result<Vec<u8>, AllocError> {
+pub(crate) fn card_bytes(heap: Global) -> Result<Vec<u8>, AllocError> {
     let file = with_check_words(heap, &GROUPS)?;
     let mut words = Vec::new(heap);
     words.extend_from_slice(&HEADER)?;

@@ -5,7 +5,10 @@ use port::Port;
 use std::error::AnyError;
 
 // Prints the words of the file, from the first, until one is not given, and returns them.
-pub fn read_file<L: Library>(rt: &LibcRuntime, library: &mut L) -> Result<Vec<u32>, AnyError> {
+pub(crate) fn read_file<L: Library>(
+    rt: &LibcRuntime,
+    library: &mut L,
+) -> Result<Vec<u32>, AnyError> {
     let mut words = Vec::new(rt.alloc());
     for place in 0..16 {
         match library.ask(place) {
@@ -24,7 +27,7 @@ pub fn read_file<L: Library>(rt: &LibcRuntime, library: &mut L) -> Result<Vec<u3
 }
 
 // Prints the list of partition `s`, eight words to a line.
-pub fn show_list<P: Port>(rt: &LibcRuntime, port: &P, s: u32) -> Result<(), AnyError> {
+pub(crate) fn show_list<P: Port>(rt: &LibcRuntime, port: &P, s: u32) -> Result<(), AnyError> {
     for index in 0..port.length(s) {
         if let Some(word) = port.word(s, index) {
             print!(rt, " {word:08x}")?;
