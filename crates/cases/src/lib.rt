@@ -1,4 +1,6 @@
 // What the crates should do, on tables of cases.
+#![tactic(auto)]
+
 #[cfg(test)]
 mod libraries;
 #[cfg(test)]

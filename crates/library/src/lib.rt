@@ -1,4 +1,6 @@
 // What holds module files, asked for one 32-bit word at a time.
+#![tactic(auto)]
+
 mod check;
 mod fault;
 mod image;

@@ -1,4 +1,6 @@
 // What takes a module's words, one at a time, into the partition that is open.
+#![tactic(auto)]
+
 mod bit_turn;
 mod loading;
 mod plane;

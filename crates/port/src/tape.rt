@@ -97,7 +97,7 @@ impl<'a> Port for Tape<'a> {
         ensures after { Step (opening s) (tape_means self.old) (tape_means self.new) }
         ensures meaning { tape_means self.new ≡ (if opens (tape_means self.old) s then after_open s (free_of self.old - 1) (free_of self.old - 1 == 0) (tape_means self.old) else tape_means self.old) }
         ensures buffer { self.new.records.now ≡ with_record result self.old s Mark }
-        ensures used { self.new.used ≡ cond result (self.old.used + 1) self.old.used }
+        ensures used { self.new.used ≡ (if result then self.old.used + 1 else self.old.used) }
         ensures between_marks { BetweenMarks self.old → BetweenMarks self.new }
         ensures grows { Grows self.old self.new }
     {
@@ -114,7 +114,7 @@ impl<'a> Port for Tape<'a> {
         ensures after { Step (putting word) (tape_means self.old) (tape_means self.new) }
         ensures meaning { tape_means self.new ≡ (if takes (tape_means self.old) then after_put word (free_of self.old - 1 == 0) (tape_means self.old) else tape_means self.old) }
         ensures buffer { self.new.records.now ≡ with_record result self.old (unwrap_or self.old.opened 0) (Word word) }
-        ensures used { self.new.used ≡ cond result (self.old.used + 1) self.old.used }
+        ensures used { self.new.used ≡ (if result then self.old.used + 1 else self.old.used) }
         ensures between_marks { BetweenMarks self.old → BetweenMarks self.new }
         ensures grows { Grows self.old self.new }
     {

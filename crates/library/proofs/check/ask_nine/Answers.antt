@@ -14,10 +14,10 @@ loop-i-preserved g c =
     let i = c.loop-i.i in
     let inv = c.loop-i.invariant in
     let q = c.args.first + i in
-    let w = c.in-ok-words.field-0 in
+    let w = c.in_ok-words.field-0 in
     let below : i < 9 = omega arith in
     let here = get_or-map-range_with_len cell c.args.first 9 i q (cell q) below refl in
-    let word = sym (ap (λ (f : ℕ → Cell). f q) inv.2) ∙ sym c.ask.ensures.answer ∙ c.in-ok-words.was in (
+    let word = sym (ap (λ (f : ℕ → Cell). f q) inv.2) ∙ sym c.ask.ensures.answer ∙ c.in_ok-words.was in (
       search rules,
       search rules,
       search rules,

@@ -10,7 +10,7 @@ pub loop-word-preserved : goal.loop-word-preserved
 loop-word-preserved c =
     let ws = c.args.words.now in
     let i = c.loop-word.word-index in
-    c.in-ok-push-word.ensures ∙
+    c.in_ok-push_word.ensures ∙
     ap (λ (xs : List ℕ). xs ++ word_bytes (get_or ws i 0)) c.loop-word.invariant ∙
     one_more word_bytes ws i 0 c.loop-word-test.true
 

@@ -11,8 +11,8 @@ use Rattle.library.proofs.module_file.with_check_words.Goals as goal
 pub loop-group-preserved : goal.loop-group-preserved
 loop-group-preserved c =
     let gs = c.args.groups.now in
-    let i = c.loop-group.group_index in
-    c.in-ok-push-group.ensures ∙
+    let i = c.loop-group.group-index in
+    c.in_ok-push_group.ensures ∙
     append_assoc _ (get_or gs i []) (xor_all (get_or gs i []) ∷ []) ∙
     ap (λ (xs : List ℕ). xs ++ group_words (get_or gs i [])) c.loop-group.invariant ∙
     one_more group_words gs i [] c.loop-group-test.true
@@ -20,5 +20,5 @@ loop-group-preserved c =
 pub returns : goal.returns
 returns c =
     let gs = c.args.groups.now in
-    let items = c.loop-group.invariant ∙ ap (flat_map group_words) (take_all c.loop-group.group_index gs c.loop-group-test.false) in
+    let items = c.loop-group.invariant ∙ ap (flat_map group_words) (take_all c.loop-group.group-index gs c.loop-group-test.false) in
     record { items = items; reads_back = subst (ReadsBack gs) (sym items) (reads_back gs c.told-groups) }

@@ -12,9 +12,9 @@ pub returns : goal.returns
 returns g c =
     let accepted = c.if-not-open.ensures.answer in
     let means = g.P.Port.means in
-    let put = c.put-all-count.ensures in
+    let put = c.put_all-count.ensures in
     record {
       answer = accepted;
-      after = loaded c.args.s c.put-all-count.result c.args.words.now (means c.args.port.now) (means c.open.new.self) (means c.put-all-count.new.port) (means c.close.new.self)
+      after = loaded c.args.s c.put_all-count.result c.args.words.now (means c.args.port.now) (means c.open.new.self) (means c.put_all-count.new.port) (means c.close.new.self)
           (c.open.ensures.after ∙ cond-true _ _ _ (sym accepted)) put.after c.close.ensures.after (omega (arith, put.count));
     }

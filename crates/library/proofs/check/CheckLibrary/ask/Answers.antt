@@ -7,7 +7,7 @@ use Rattle.library.proofs.check.CheckLibrary.ask.Goals as goal
 
 pub returns : goal.returns
 returns g c =
-    let told = c.checked-word.ensures in
+    let told = c.checked_word.ensures in
     let own = above (g.L.Library.layer c.args.self.now.below) in
     let cells = g.L.Library.cell c.args.self.now.below in
     record {

@@ -2,8 +2,8 @@ use Rattle.std.proofs.Common.{arith}
 use Rattle.library.proofs.Entries.{word_found}
 use Rattle.library.proofs.patch_table.PatchTable.word_at.Goals as goal
 
-pub offset-bounds-self-i : goal.offset-bounds-self-i
-offset-bounds-self-i c = omega (arith, c.in-Some.ensures.bound, c.args.self.now.few)
+pub offset_bounds-self-i : goal.offset_bounds-self-i
+offset_bounds-self-i c = omega (arith, c.in-Some.ensures.bound, c.args.self.now.few)
 
 pub bounds-self-i : goal.bounds-self-i
 bounds-self-i c = omega (arith, c.in-Some.ensures.bound, c.args.self.now.few)

@@ -6,4 +6,4 @@ use Rattle.port.proofs.tape.Tape.find.Goals as goal
 pub returns : goal.returns
 returns c =
     let t = c.args.self.now in
-    c.scan-all.ensures ∙ ap (summary c.args.s c.args.index) (in_use t.records.now c.min-used.result t.used c.min-used.ensures)
+    c.scan_all.ensures ∙ ap (summary c.args.s c.args.index) (in_use t.records.now c.min-used.result t.used c.min-used.ensures)
