@@ -1,4 +1,6 @@
 // Makes a module file, reads it through layers, and loads it into ports.
+#![tactic(auto)]
+
 mod card;
 mod show;
 
