@@ -11,7 +11,7 @@ pub fn put_all<P: Port>(port: &mut P, words: &[u32]) -> usize
     ensures count { result ≡ min (space_of (P.Port.means port.old)) (length words.now) }
     ensures after { P.Port.means port.new ≡ after_puts (take result words.now) (P.Port.means port.new).spent (P.Port.means port.old) }
     ensures open_list { (s : ℕ) (ws : List ℕ) → Since s ws (P.Port.means port.old) → (P.Port.means port.new).words s ≡ ws ++ take result words.now }
-    ensures histories { (OpenList) × (Untouched) }
+    ensures histories { OpenList × Untouched }
     ensures none { result ≡ 0 → P.Port.means port.new ≡ P.Port.means port.old }
 {
     for (i, word) in words.iter().enumerate() {
