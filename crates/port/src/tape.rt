@@ -1,5 +1,5 @@
 // The caller's records, filled one after another with marks and words.
-ghost use Rattle.std.specs.Prelude.{◌≡◌, ◌+◌, ◌-◌, ◌<◌, length, set, if◌then◌else◌, Some, None, ◌==◌};
+ghost use Rattle.std.specs.Prelude.{◌≡◌, ◌+◌, ◌-◌, ◌<◌, length, if◌then◌else◌, Some, None, ◌==◌, slice_set};
 ghost use Rattle.std.specs.Option.{unwrap_or};
 ghost use Rattle.port.specs.declared.tape_record.Content.TheVariants.{Mark, Word};
 ghost use Rattle.port.specs.Meaning.{fresh, opens, takes, closes, after_open, after_put, after_close};
@@ -44,7 +44,7 @@ impl<'a> Tape<'a> {
     // Writes the next record.
     fn write(&mut self, partition: u32, content: Content)
         requires { self.old.used < length self.old.records.now }
-        ensures records { self.new.records.now ≡ set self.old.records.now self.old.used (record { partition = partition; content = content }) }
+        ensures records { self.new.records.now ≡ slice_set self.old.records.now self.old.used (record { partition = partition; content = content }) }
         ensures used { self.new.used ≡ self.old.used + 1 }
         ensures opened { self.new.opened ≡ self.old.opened }
     {
