@@ -238,5 +238,7 @@ fn causes_and_refusals_have_their_numbers(rt: HostRuntime) -> Result<(), Fail> {
         text.as_str(),
         "layer 2, cause 2 (unreadable), place 4294967295"
     );
+    let full = format!(in rt.alloc(); "{}", Refusal::PatchesFull)?;
+    assert_eq!(rt; full.as_str(), "sixteen places are patched already");
     Ok(())
 }

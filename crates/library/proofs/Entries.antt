@@ -1,71 +1,116 @@
 -- Where a place stands among the entries of a patch table, and what follows from it.
-use Rattle.std.proofs.Common.{◌≡◌, ℕ, ◌+◌, ◌<◌, ◌≤◌, cond, ◌||◌, eqb, ltb, List, length, get_or, take, drop, set, is_some, Some, None, Ok, Err, Option, sym, refl, ap, ◌∙◌, arith, length-take}
-use lib.Seq.{take-set-lt}
-use Rattle.std.proofs.lemmas.List.{at_drop_all, at_drop_more, get_or-take, take_more_set}
-use Rattle.std.proofs.lemmas.Bool.{cond-false, cond-true, eq-eqb, le-ltb, lt-ltb, ne_eqb}
+use Rattle.std.proofs.Common.{◌≡◌, ℕ, suc, ◌+◌, ◌<◌, ◌≤◌, Bool, true, false, cond, not, List, [], ◌∷◌, ◌++◌, length, drop, position, set, is_some, Some, None, Ok, Err, ◌||◌, nat_lt, Option, sym, refl, ap, ◌∙◌, subst, inl, inr, ◌⊎◌, option_map, arith}
+use Rattle.std.proofs.lemmas.Bool.{cases_lt, cond-false, cond-true, le-ltb, lt-ltb}
+use Rattle.std.proofs.lemmas.List.{length-set, length_push, take_at}
+use Rattle.std.specs.List.{position_or_len, refill}
 use Rattle.library.specs.declared.patch_table.Entry.{Entry}
 use Rattle.library.specs.declared.patch_table.PatchTable.{PatchTable}
 use Rattle.library.specs.declared.refusal.Refusal.TheVariants.{PatchesFull}
-use Rattle.library.specs.Patch.{WithPatch, count_with, keeping, kept, kept_word, next, patch_answer, placed, position_of, with_patch, word_of}
+use Rattle.library.specs.Patch.{WithPatch, has_room, is_for, entry_for, kept_entries, kept_word, patch_answer, with_patch}
 
--- i further
-abbrev pub further : ℕ → Option ℕ → Option ℕ
-further i None = None
-further i (Some k) = Some (i + k)
+-- whether a place is kept, entry by entry
+known_by : (q : ℕ) (e : Entry) (es : List Entry) (b : Bool) → is_for q e ≡ b → is_some (kept_word (e ∷ es) q) ≡ cond b true (is_some (kept_word es q))
+known_by q e es true same = ap (λ (o : Option Entry). is_some (option_map (λ (x : Entry). x.word) o)) (cond-true _ _ _ same)
+known_by q e es false other = ap (λ (o : Option Entry). is_some (option_map (λ (x : Entry). x.word) o)) (cond-false _ _ _ other)
 
-further-next : (i : ℕ) (o : Option ℕ) → further i (next o) ≡ further (i + 1) o
-further-next i None = refl
-further-next i (Some k) = ap (λ (n : ℕ). Some n) (omega arith)
+module _ (q w : ℕ) where
+  -- The entry at index i is the first for the place, and can have the new word.
+  pub record Found (es : List Entry) (i : ℕ) : Type 0 where
+    pub changed : set es i (entry_for q w) ≡ with_patch es q w
+    pub known : is_some (kept_word es q) ≡ true
 
--- the first n of the entries, at the i-th
-module _ (es : List Entry) (n i p : ℕ) (d : Entry) (h : i < n) (fits : n ≤ length es) where
-  step : position_of (drop i (take n es)) p ≡ cond (eqb (get_or es i d).place p) (Some 0) (next (position_of (drop (i + 1) (take n es)) p))
-  step =
-      at_drop_more (λ (xs : List Entry). position_of xs p) (take n es) i d (simp length-take (omega arith)) ∙
-      ap (λ (e : Entry). cond (eqb e.place p) (Some 0) (next (position_of (drop (i + 1) (take n es)) p))) (get_or-take n es i d h)
+  -- No entry is for the place, and a new one can go behind the last.
+  pub record Missing (es : List Entry) : Type 0 where
+    pub longer : es ++ entry_for q w ∷ [] ≡ with_patch es q w
+    pub new : is_some (kept_word es q) ≡ false
 
-  pub passed : ((get_or es i d).place ≡ p → ⊥) → further i (position_of (drop i (take n es)) p) ≡ further (i + 1) (position_of (drop (i + 1) (take n es)) p)
-  passed other = ap (further i) (step ∙ cond-false _ _ _ (ne_eqb _ _ other)) ∙ further-next i _
+  pub found : (es : List Entry) → position_or_len (is_for q) es < length es → Found es (position_or_len (is_for q) es)
+  found [] h = absurd (omega arith)
+  found (e ∷ es) h = by (is_for q e) refl h (found es)
+    where
+      by : (b : Bool) → is_for q e ≡ b → cond (not b) (1 + position_or_len (is_for q) es) 0 < length (e ∷ es) → (position_or_len (is_for q) es < length es → Found es (position_or_len (is_for q) es)) → Found (e ∷ es) (cond (not b) (1 + position_or_len (is_for q) es) 0)
+      by true same inside later = record {
+        changed = sym (cond-true _ _ _ same);
+        known = known_by q e es true same;
+      }
+      by false other inside later =
+          let rest = later (omega arith) in
+          subst (Found (e ∷ es)) (let next : suc (position_or_len (is_for q) es) ≡ 1 + position_or_len (is_for q) es = omega arith in next) (record {
+            changed = ap (λ (xs : List Entry). e ∷ xs) rest.changed ∙ sym (cond-false _ _ _ other);
+            known = known_by q e es false other ∙ rest.known;
+          })
 
-  pub reached : (get_or es i d).place ≡ p → Some i ≡ further i (position_of (drop i (take n es)) p)
-  reached same = sym (ap (further i) (step ∙ cond-true _ _ _ (eq-eqb _ _ same)) ∙ ap (λ (k : ℕ). Some k) (omega arith))
+  pub missing : (es : List Entry) → length es ≤ position_or_len (is_for q) es → Missing es
+  missing [] h = record { longer = refl; new = refl }
+  missing (e ∷ es) h = by (is_for q e) refl h (missing es)
+    where
+      by : (b : Bool) → is_for q e ≡ b → length (e ∷ es) ≤ cond (not b) (1 + position_or_len (is_for q) es) 0 → (length es ≤ position_or_len (is_for q) es → Missing es) → Missing (e ∷ es)
+      by true same past later = absurd (omega arith)
+      by false other past later =
+          let rest = later (omega arith) in
+          record {
+            longer = ap (λ (xs : List Entry). e ∷ xs) rest.longer ∙ sym (cond-false _ _ _ other);
+            new = known_by q e es false other ∙ rest.new;
+          }
 
-pub none_left : (es : List Entry) (n i p : ℕ) → n ≤ i → None ≡ further i (position_of (drop i (take n es)) p)
-none_left es n i p past = sym (at_drop_all (λ (xs : List Entry). further i (position_of xs p)) (take n es) i (simp length-take (omega arith)))
+-- what a search for the index finds
+pub data Search (q w : ℕ) (es : List Entry) : Option ℕ → Type 0 where
+  at : (i : ℕ) → Found q w es i → Search q w es (Some i)
+  none : Missing q w es → Search q w es None
 
--- what a table gives and becomes, by the position of the place
-module _ (t : PatchTable) (p : ℕ) where
-  by_position : (o : Option ℕ) → o ≡ position_of (kept t) p → cond (is_some o || ltb t.count 16) (Ok tt) (Err PatchesFull) ≡ patch_answer t p
-  by_position o e = ap (λ (x : Option ℕ). cond (is_some x || ltb t.count 16) (Ok tt) (Err PatchesFull)) e
+pub searched : (q w : ℕ) (es : List Entry) → Search q w es (position (is_for q) es)
+searched q w es = by (cases_lt (position_or_len (is_for q) es) (length es))
+  where
+    by : (position_or_len (is_for q) es < length es) ⊎ (length es ≤ position_or_len (is_for q) es) → Search q w es (position (is_for q) es)
+    by (inl h) = subst (Search q w es) (sym (cond-true _ _ _ (lt-ltb _ _ h))) (at (position_or_len (is_for q) es) (found q w es h))
+    by (inr h) = subst (Search q w es) (sym (cond-false _ _ _ (le-ltb _ _ h))) (none (missing q w es h))
 
-  counts : (o : Option ℕ) → o ≡ position_of (kept t) p → cond (is_some o) t.count (t.count + 1) ≡ count_with t p
-  counts o e = ap (λ (x : Option ℕ). cond (is_some x) t.count (t.count + 1)) e
+module _ (t : PatchTable) (q w : ℕ) where
+  accepted : is_some (kept_word (kept_entries t) q) ≡ true → Ok tt ≡ patch_answer t q
+  accepted known = sym (cond-true _ _ _ (ap (λ (b : Bool). b || nat_lt (length (kept_entries t)) 16) known))
 
-  becomes : (w : ℕ) (o : Option ℕ) → o ≡ position_of (kept t) p → placed (kept t) o (keeping p w) ≡ with_patch (kept t) p w
-  becomes w o e = ap (λ (x : Option ℕ). placed (kept t) x (keeping p w)) e
+  -- the word of the entry at index i is replaced
+  module _ (i : ℕ) (is : Some i ≡ position (is_for q) (kept_entries t)) where
+    at_index : Found q w (kept_entries t) i
+    at_index = by _ (sym is) (searched q w (kept_entries t))
+      where
+        by : (o : Option ℕ) → o ≡ Some i → Search q w (kept_entries t) o → Found q w (kept_entries t) i
+        by _ e (at j first) = let same : j ≡ i = cc in subst (Found q w (kept_entries t)) same first
+        by _ e (none new) = let z : ◌≡◌ {A = ℕ} 0 1 = cc in absurd (omega arith)
 
-  module _ (i : ℕ) (h : i < t.count) (found : Some i ≡ position_of (kept t) p) where
-    pub word_found : Some (get_or t.entries i (keeping 0 0)).word ≡ kept_word (kept t) p
-    word_found = ap (λ (e : Entry). Some e.word) (sym (get_or-take t.count t.entries i (keeping 0 0) h)) ∙ ap (word_of (kept t)) found
+    pub taken : Ok tt ≡ patch_answer t q
+    taken = accepted at_index.known
 
-    pub taken : Ok tt ≡ patch_answer t p
-    taken = by_position (Some i) found
-
-    pub replaced : (u : PatchTable) (w : ℕ) → u.entries ≡ set t.entries i (keeping p w) → u.count ≡ t.count → WithPatch p w t u
-    replaced u w entries count = record {
-      entries = ap (λ (n : ℕ). take n u.entries) count ∙ ap (take t.count) entries ∙ take-set-lt t.count t.entries i (keeping p w) h ∙ becomes w (Some i) found;
-      count = count ∙ counts (Some i) found;
+    -- the table is written through a slice of its entries
+    pub replaced : (u : PatchTable) (es : List Entry) → es ≡ kept_entries t → u.entries.items ≡ refill (length (kept_entries t)) (kept_entries t) (set es i (entry_for q w)) → WithPatch q w t u
+    replaced u es same e = record {
+      entries = e ∙ items;
+      count = ap length (e ∙ items) ∙ sym (ap length at_index.changed) ∙ length-set (kept_entries t) i _ ∙ sym (cond-true _ _ _ at_index.known);
     }
+      where
+        items : refill (length (kept_entries t)) (kept_entries t) (set es i (entry_for q w)) ≡ with_patch (kept_entries t) q w
+        items =
+            take_at (set es i _) (drop _ (kept_entries t)) (length (kept_entries t)) (length-set es i _ ∙ ap length same) ∙
+            ap (λ (xs : List Entry). set xs i (entry_for q w)) same ∙
+            at_index.changed
 
-  module _ (missing : None ≡ position_of (kept t) p) where
-    pub added : t.count < 16 → Ok tt ≡ patch_answer t p
-    added room = sym (cond-true _ _ _ (lt-ltb t.count 16 room)) ∙ by_position None missing
+  -- there is no entry yet
+  module _ (is : None ≡ position (is_for q) (kept_entries t)) where
+    no_entry : Missing q w (kept_entries t)
+    no_entry = by _ (sym is) (searched q w (kept_entries t))
+      where
+        by : (o : Option ℕ) → o ≡ None → Search q w (kept_entries t) o → Missing q w (kept_entries t)
+        by _ e (at j first) = let z : ◌≡◌ {A = ℕ} 0 1 = cc in absurd (omega arith)
+        by _ e (none new) = new
 
-    pub full : 16 ≤ t.count → Err PatchesFull ≡ patch_answer t p
-    full none = sym (cond-false _ _ _ (le-ltb t.count 16 none)) ∙ by_position None missing
+    by_room : has_room t q ≡ nat_lt (length (kept_entries t)) 16
+    by_room = ap (λ (b : Bool). b || nat_lt (length (kept_entries t)) 16) no_entry.new
 
-    pub appended : (u : PatchTable) (w : ℕ) → t.count < length t.entries → u.entries ≡ set t.entries t.count (keeping p w) → u.count ≡ t.count + 1 → WithPatch p w t u
-    appended u w fits entries count = record {
-      entries = ap (λ (n : ℕ). take n u.entries) count ∙ ap (take (t.count + 1)) entries ∙ take_more_set t.entries t.count (keeping p w) fits ∙ becomes w None missing;
-      count = count ∙ counts None missing;
+    pub full : length (kept_entries t) ≡ 16 → Err PatchesFull ≡ patch_answer t q
+    full all = sym (cond-false _ _ _ (by_room ∙ le-ltb (length (kept_entries t)) 16 (omega arith)))
+
+    pub appended : (u : PatchTable) → u.entries.items ≡ kept_entries t ++ entry_for q w ∷ [] → WithPatch q w t u
+    appended u e = record {
+      entries = e ∙ no_entry.longer;
+      count = ap length e ∙ length_push (kept_entries t) (entry_for q w) ∙ sym (cond-false _ _ _ no_entry.new);
     }

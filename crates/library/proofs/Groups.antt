@@ -8,8 +8,8 @@ use Rattle.std.proofs.lemmas.Bool.{cases_eq, eqb-true}
 use Rattle.library.specs.declared.fault.Fault.{Fault}
 use Rattle.library.specs.declared.fault.Cause.{Cause}
 use Rattle.library.specs.declared.fault.Cause.TheVariants.{BeyondEnd, CheckFailed}
-use Rattle.library.specs.Check.{after_word, all_words, checked, group_cells, group_fits, group_start, group_word, xor_all}
-use Rattle.library.specs.Fault.{Cell, faulty}
+use Rattle.library.specs.Check.{after_word, all_words, checked_cell, group_cells, group_fits, group_start, group_word, xor_all}
+use Rattle.library.specs.Fault.{Cell, fault_at}
 use Rattle.library.specs.Laws.{PassesFaults, Sound, first_fault}
 
 -- Cells that are read one after another: all are words, or there is a first fault.
@@ -27,13 +27,13 @@ reads (Ok w ∷ cs) = read_on w cs (first_fault cs) (all_words cs) (reads cs)
 reads (Err f ∷ cs) = fault f
 
 -- a fault that a layer makes
-own_fault : (own p : ℕ) (c : Cause) (f : Fault) → faulty own c p ≡ Err f → (f.layer ≡ own) × (f.place ≡ p)
+own_fault : (own p : ℕ) (c : Cause) (f : Fault) → fault_at own c p ≡ Err f → (f.layer ≡ own) × (f.place ≡ p)
 own_fault own p c f e =
     let same : ◌≡◌ {A = Fault} (record { layer = own; cause = c; place = p }) f = cc in
     (ap (λ (x : Fault). x.layer) (sym same), ap (λ (x : Fault). x.place) (sym same))
 
 module _ (own p : ℕ) where
-  by_sum : (b : Bool) (w : ℕ) (f : Fault) → cond b (Ok w) (faulty own CheckFailed p) ≡ Err f → (f.layer ≡ own) × (f.place ≡ p)
+  by_sum : (b : Bool) (w : ℕ) (f : Fault) → cond b (Ok w) (fault_at own CheckFailed p) ≡ Err f → (f.layer ≡ own) × (f.place ≡ p)
   by_sum true w f e = let z : ◌≡◌ {A = ℕ} 0 1 = cc in absurd (omega arith)
   by_sum false w f e = own_fault own p CheckFailed f e
 
@@ -41,11 +41,11 @@ module _ (own p : ℕ) where
   by_reads cs o r (words ws e) was = record { unchanged = λ f is. let z : ◌≡◌ {A = ℕ} 0 1 = cc in absurd (omega arith); its_own = λ f _ is. by_sum _ _ f is }
   by_reads cs o r (fault x) was = record { unchanged = λ f is. cc; its_own = λ f is _. let z : ◌≡◌ {A = ℕ} 0 1 = cc in absurd (omega arith) }
 
-  by_fit : (b : Bool) (cs : List Cell) → PassesFaults own p (cond b cs []) (cond b (group_word own p (all_words cs)) (faulty own BeyondEnd p))
+  by_fit : (b : Bool) (cs : List Cell) → PassesFaults own p (cond b cs []) (cond b (group_word own p (all_words cs)) (fault_at own BeyondEnd p))
   by_fit true cs = by_reads cs (first_fault cs) (all_words cs) (reads cs) refl
   by_fit false cs = record { unchanged = λ f is. let z : ◌≡◌ {A = ℕ} 0 1 = cc in absurd (omega arith); its_own = λ f _ is. own_fault own p BeyondEnd f is }
 
-  pub passes_faults : (cells : ℕ → Cell) → PassesFaults own p (cond (group_fits p) (group_cells cells p) []) (checked own cells p)
+  pub passes_faults : (cells : ℕ → Cell) → PassesFaults own p (cond (group_fits p) (group_cells cells p) []) (checked_cell own cells p)
   passes_faults cells = by_fit (group_fits p) (group_cells cells p)
 
 -- a sum may begin anywhere
@@ -93,7 +93,7 @@ pub record Group (p w : ℕ) (cs : List Cell) : Type 0 where
   pub word : get_or words (p % 8) 0 ≡ w
 
 module _ (own p w : ℕ) where
-  passes : (b : Bool) (x : ℕ) → cond b (Ok x) (faulty own CheckFailed p) ≡ Ok w → (b ≡ true) × (x ≡ w)
+  passes : (b : Bool) (x : ℕ) → cond b (Ok x) (fault_at own CheckFailed p) ≡ Ok w → (b ≡ true) × (x ≡ w)
   passes true x e = (refl, cc)
   passes false x e = let z : ◌≡◌ {A = ℕ} 0 1 = cc in absurd (omega arith)
 
@@ -103,7 +103,7 @@ module _ (own p w : ℕ) where
       record { words = ws; held = e; sum = eqb-true _ _ told.0; word = told.1 }
   from_reads cs o r (fault f) given = let z : ◌≡◌ {A = ℕ} 0 1 = cc in absurd (omega arith)
 
-  group : (b : Bool) (cs : List Cell) → cond b (group_word own p (all_words cs)) (faulty own BeyondEnd p) ≡ Ok w → Group p w cs
+  group : (b : Bool) (cs : List Cell) → cond b (group_word own p (all_words cs)) (fault_at own BeyondEnd p) ≡ Ok w → Group p w cs
   group true cs given = from_reads cs (first_fault cs) (all_words cs) (reads cs) given
   group false cs given = let z : ◌≡◌ {A = ℕ} 0 1 = cc in absurd (omega arith)
 
@@ -117,7 +117,7 @@ module _ (p w : ℕ) (cells : ℕ → Cell) (g : Group p w (group_cells cells p)
       ap (λ (cs : List Cell). get_or cs j (Ok 0)) g.held ∙
       get_or-map (λ (v : ℕ). Ok v) g.words j 0 (Ok 0) (omega (arith, nine_words))
 
-pub sound : (own p w : ℕ) (cells : ℕ → Cell) → checked own cells p ≡ Ok w → Sound own cells p w
+pub sound : (own p w : ℕ) (cells : ℕ → Cell) → checked_cell own cells p ≡ Ok w → Sound own cells p w
 sound own p w cells given =
     let g = group own p w (group_fits p) (group_cells cells p) given in
     let sums = whole g.words (nine_words p w cells g) g.sum in

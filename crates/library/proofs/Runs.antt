@@ -31,9 +31,9 @@ module _ (rs : List Run) (i s p : ℕ) (d : Run) (h : i < length rs) where
       sym (step ∙ past (get_or rs i d).count (get_or rs i d) (run_places (drop (i + 1) rs)) (p - s) (omega arith))
 
 -- the first sixteen, as the loop takes them
-pub counted : (rs : List Run) (n : ℕ) → n ≡ min (length rs) 16 → take (n - 0) rs ≡ take 16 rs
+pub counted : (rs : List Run) (n : ℕ) → n ≡ min (length rs) 16 → take n rs ≡ take 16 rs
 counted rs n e =
     ⊎_elim
-    (λ few. ap (λ (k : ℕ). take k rs) (let k : n - 0 ≡ length rs = omega arith in k) ∙ take_all (length rs) rs (omega arith) ∙ sym (take_all 16 rs (omega arith)))
-    (λ many. ap (λ (k : ℕ). take k rs) (let k : n - 0 ≡ 16 = omega arith in k))
+    (λ few. ap (λ (k : ℕ). take k rs) (let k : n ≡ length rs = omega arith in k) ∙ take_all (length rs) rs (omega arith) ∙ sym (take_all 16 rs (omega arith)))
+    (λ many. ap (λ (k : ℕ). take k rs) (let k : n ≡ 16 = omega arith in k))
     (cases_lt (length rs) 16)

@@ -1,6 +1,6 @@
 -- The words of cells that are read one after another.
-use Rattle.std.proofs.Common.{◌≡◌, ℕ, ◌+◌, ◌<◌, ◌≤◌, List, [], ◌∷◌, ◌++◌, length, get_or, take, drop, Ok, Err, Result, sym, refl, ap, ◌∙◌, append_assoc, append-nil}
-use Rattle.std.proofs.lemmas.List.{at_drop_all, at_drop_more, take_all}
+use Rattle.std.proofs.Common.{◌≡◌, ℕ, ◌+◌, ◌<◌, List, [], ◌∷◌, ◌++◌, length, get_or, drop, Ok, Err, Result, sym, refl, ap, ◌∙◌, append_assoc}
+use Rattle.std.proofs.lemmas.List.{at_drop_more}
 use Rattle.library.specs.declared.fault.Fault.{Fault}
 use Rattle.library.specs.Fault.{Cell}
 use Rattle.library.specs.Check.{after_word, all_words}
@@ -20,10 +20,3 @@ module _ (ws : List ℕ) (cs : List Cell) (i : ℕ) (c : Cell) (h : i < length c
 
   pub read_word : (w : ℕ) → c ≡ Ok w → followed_by ws (all_words (drop i cs)) ≡ followed_by (ws ++ w ∷ []) (all_words (drop (i + 1) cs))
   read_word w e = ap (followed_by ws) (step ∙ ap (λ (x : Cell). all_words (x ∷ drop (i + 1) cs)) e) ∙ one_more ws w (all_words (drop (i + 1) cs))
-
-  pub read_fault : (f : Fault) → c ≡ Err f → followed_by ws (all_words (drop i cs)) ≡ Err f
-  read_fault f e = ap (followed_by ws) (step ∙ ap (λ (x : Cell). all_words (x ∷ drop (i + 1) cs)) e)
-
-pub all_read : (ws : List ℕ) (cs : List Cell) (i : ℕ) → length ws ≤ i → length cs ≤ i → Ok ws ≡ followed_by (take i ws) (all_words (drop i cs))
-all_read ws cs i words cells =
-    sym (ap (λ (x : Result (List ℕ) Fault). followed_by (take i ws) x) (at_drop_all all_words cs i cells) ∙ ap (λ (xs : List ℕ). Ok xs) (append-nil (take i ws) ∙ take_all i ws words))

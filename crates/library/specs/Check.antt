@@ -1,10 +1,10 @@
 -- What the check layer gives of the library below. Assumes nothing.
-use Rattle.std.specs.Prelude.{ℕ, ◌+◌, ◌*◌, ◌/◌, ◌%◌, Bool, cond, List, [], ◌∷◌, map, take, Ok, Err, fold, Result, ◌==◌, bit_xor, nat_le, slice_index}
+use Rattle.std.specs.Prelude.{ℕ, ◌+◌, ◌*◌, ◌/◌, ◌%◌, Bool, if◌then◌else◌, List, [], ◌∷◌, map, take, Ok, Err, fold, Result, ◌==◌, bit_xor, nat_le, slice_index}
 use Rattle.std.specs.List.{range_with_len}
 use Rattle.library.specs.declared.check.Check.{Check}
 use Rattle.library.specs.declared.fault.Fault.{Fault}
 use Rattle.library.specs.declared.fault.Cause.TheVariants.{BeyondEnd, CheckFailed}
-use Rattle.library.specs.Fault.{Cell, above, faulty}
+use Rattle.library.specs.Fault.{Cell, layer_above, fault_at}
 
 -- the exclusive or of words
 abbrev pub xor_all : List ℕ → ℕ
@@ -36,16 +36,16 @@ group_cells cells p = map cells (range_with_len (group_start p) 9)
 -- the word for place p of a group, whose ninth word is the exclusive or of the eight before it
 abbrev pub group_word : ℕ → ℕ → Result (List ℕ) Fault → Cell
 group_word own p (Err f) = Err f
-group_word own p (Ok ws) = cond (xor_all (take 8 ws) == slice_index ws 8) (Ok (slice_index ws (p % 8))) (faulty own CheckFailed p)
+group_word own p (Ok ws) = if xor_all (take 8 ws) == slice_index ws 8 then Ok (slice_index ws (p % 8)) else fault_at own CheckFailed p
 
 -- what layer `own` gives at place p over some cells
-abbrev pub checked : ℕ → (ℕ → Cell) → ℕ → Cell
-checked own cells p = cond (group_fits p) (group_word own p (all_words (group_cells cells p))) (faulty own BeyondEnd p)
+abbrev pub checked_cell : ℕ → (ℕ → Cell) → ℕ → Cell
+checked_cell own cells p = if group_fits p then group_word own p (all_words (group_cells cells p)) else fault_at own BeyondEnd p
 
 -- what a check layer gives at place p
 abbrev pub check_cell : {L : Type 0} → (L → ℕ) → (L → ℕ → Cell) → Check L → ℕ → Cell
-check_cell layer cell c p = checked (above (layer c.below)) (cell c.below) p
+check_cell layer cell c p = checked_cell (layer_above (layer c.below)) (cell c.below) p
 
 -- the cells below that the answer at place p is read off
 abbrev pub check_reads : {L : Type 0} → (L → ℕ → Cell) → Check L → ℕ → List Cell
-check_reads cell c p = cond (group_fits p) (group_cells (cell c.below) p) []
+check_reads cell c p = if group_fits p then group_cells (cell c.below) p else []

@@ -26,9 +26,9 @@ fault_text f =
     codes "layer " ++ (decimal f.layer ++ (codes ", cause " ++ (decimal (cause_number f.cause) ++ (codes " (" ++ (cause_text f.cause ++ (codes "), place " ++ decimal f.place))))))
 
 -- the fault that layer l finds at its place p
-abbrev pub faulty : ℕ → Cause → ℕ → Cell
-faulty l c p = Err (record { layer = l; cause = c; place = p })
+abbrev pub fault_at : ℕ → Cause → ℕ → Cell
+fault_at l c p = Err (record { layer = l; cause = c; place = p })
 
 -- the number of a layer that stands on layer l
-abbrev pub above : ℕ → ℕ
-above l = min (l + 1) 255
+abbrev pub layer_above : ℕ → ℕ
+layer_above l = min (l + 1) 255

@@ -1,7 +1,7 @@
 -- What an image holds. Assumes nothing.
-use Rattle.std.specs.Prelude.{ℕ, ◌+◌, ◌*◌, cond, List, length, Ok, nat_le, slice_index}
+use Rattle.std.specs.Prelude.{ℕ, ◌+◌, ◌*◌, if◌then◌else◌, List, length, Ok, nat_le, slice_index}
 use Rattle.library.specs.declared.fault.Cause.TheVariants.{BeyondEnd}
-use Rattle.library.specs.Fault.{Cell, faulty}
+use Rattle.library.specs.Fault.{Cell, fault_at}
 
 -- the four bytes from i on as a word, most significant first
 abbrev pub word_from : List ℕ → ℕ → ℕ
@@ -9,4 +9,4 @@ word_from bs i = slice_index bs i * 16777216 + slice_index bs (i + 1) * 65536 + 
 
 -- word p is the four bytes from 4p on, where all four are there
 abbrev pub image_cell : List ℕ → ℕ → Cell
-image_cell bs p = cond (nat_le (p * 4 + 4) (length bs)) (Ok (word_from bs (p * 4))) (faulty 0 BeyondEnd p)
+image_cell bs p = if nat_le (p * 4 + 4) (length bs) then Ok (word_from bs (p * 4)) else fault_at 0 BeyondEnd p

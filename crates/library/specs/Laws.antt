@@ -1,22 +1,17 @@
 -- What holds of libraries and layers, above the definitions of their cells. Assumes nothing.
-use Rattle.std.specs.Prelude.{◌≡◌, ℕ, ◌+◌, ◌/◌, ◌%◌, ◌<◌, ◌≤◌, true, cond, ◌≢◌, List, [], ◌∷◌, map, length, Some, None, Ok, Err, Option, ◌==◌, slice_index, slice_index_or}
+use Rattle.std.specs.Prelude.{◌≡◌, ℕ, ◌+◌, ◌/◌, ◌%◌, ◌<◌, ◌≤◌, true, if◌then◌else◌, ◌≢◌, List, [], ◌∷◌, map, length, Some, None, Ok, Err, Option, ◌==◌, slice_index, slice_index_or}
 use Rattle.library.specs.declared.fault.Fault.{Fault}
 use Rattle.library.specs.declared.fault.Cause.TheVariants.{BeyondEnd}
 use Rattle.library.specs.declared.window.Window.{Window}
-use Rattle.library.specs.Fault.{Cell, above, faulty}
-use Rattle.library.specs.Check.{checked, group_cells, group_fits, group_start, xor_all}
+use Rattle.library.specs.Fault.{Cell, layer_above, fault_at}
+use Rattle.library.specs.Check.{checked_cell, group_cells, group_fits, group_start, xor_all}
 use Rattle.library.specs.Image.{image_cell}
 use Rattle.library.specs.Window.{window_cell}
 
 -- An image of the bytes of words holds these words, and nothing behind them.
 pub record Holds (bytes ws : List ℕ) : Type 0 where
   pub words : (p : ℕ) → p < length ws → image_cell bytes p ≡ Ok (slice_index ws p)
-  pub ends : (p : ℕ) → length ws ≤ p → image_cell bytes p ≡ faulty 0 BeyondEnd p
-
--- Library b means what library a means.
-pub record SameMeaning {L : Type 0} (layer : L → ℕ) (cell : L → ℕ → Cell) (a b : L) : Type 0 where
-  pub same_layer : layer b ≡ layer a
-  pub same_cells : cell b ≡ cell a
+  pub ends : (p : ℕ) → length ws ≤ p → image_cell bytes p ≡ fault_at 0 BeyondEnd p
 
 -- the first fault among cells
 abbrev pub first_fault : List Cell → Option Fault
@@ -35,12 +30,12 @@ pub record PassesFaults (own p : ℕ) (cells : List Cell) (answer : Cell) : Type
 abbrev pub OneWindow : {L : Type 0} → (L → ℕ) → (L → ℕ → Cell) → Window L → Type 0
 OneWindow layer cell w =
     (b n p : ℕ) → p < n → b + p < w.length → w.base + b + p ≤ 4294967295 →
-    window_cell (λ v. above (layer v.below)) (window_cell layer cell) (record { below = w; base = b; length = n }) p ≡
+    window_cell (λ v. layer_above (layer v.below)) (window_cell layer cell) (record { below = w; base = b; length = n }) p ≡
     window_cell layer cell (record { below = w.below; base = w.base + b; length = n }) p
 
 -- the cells with word w at place q, and no other change
 abbrev pub with_word : (ℕ → Cell) → ℕ → ℕ → ℕ → Cell
-with_word cells q w p = cond (p == q) (Ok w) (cells p)
+with_word cells q w p = if p == q then Ok w else cells p
 
 -- What patching place q with w makes of a library's cells.
 pub record Patched (q w : ℕ) (before after : ℕ → Cell) : Type 0 where
@@ -64,10 +59,10 @@ pub record Sound (own : ℕ) (cells : ℕ → Cell) (p w : ℕ) : Type 0 where
   -- the nine words of its group cancel out
   pub cancels : Cancels (group_cells cells p)
   -- with another word in one place of the group it would give none
-  pub one_wrong_word : (others : ℕ → Cell) (k v : ℕ) → k < 9 → ((j : ℕ) → j < 9 → j ≢ k → others (group_start p + j) ≡ cells (group_start p + j)) → checked own others p ≡ Ok v → others (group_start p + k) ≡ cells (group_start p + k)
+  pub one_wrong_word : (others : ℕ → Cell) (k v : ℕ) → k < 9 → ((j : ℕ) → j < 9 → j ≢ k → others (group_start p + j) ≡ cells (group_start p + j)) → checked_cell own others p ≡ Ok v → others (group_start p + k) ≡ cells (group_start p + k)
 
 -- Words with check words, held from place 0 on, give the words of their groups through a check layer.
 abbrev pub ReadsBack : List (List ℕ) → List ℕ → Type 0
 ReadsBack groups words =
     (own : ℕ) (cells : ℕ → Cell) (p : ℕ) → p / 8 < length groups → group_fits p ≡ true → ((q : ℕ) → q < length words → cells q ≡ Ok (slice_index words q)) →
-    checked own cells p ≡ Ok (slice_index (slice_index_or groups (p / 8) []) (p % 8))
+    checked_cell own cells p ≡ Ok (slice_index (slice_index_or groups (p / 8) []) (p % 8))

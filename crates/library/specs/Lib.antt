@@ -2,6 +2,7 @@ pub mod Check
 pub mod Fault
 pub mod Image
 pub mod Laws
+pub mod Library
 pub mod ModuleFile
 pub mod Patch
 pub mod Refusal

@@ -1,5 +1,6 @@
 -- What a patch layer keeps, and what it gives. Assumes nothing.
-use Rattle.std.specs.Prelude.{◌≡◌, ℕ, ◌+◌, Bool, true, cond, not, ◌&&◌, ◌||◌, List, [], ◌∷◌, ◌++◌, take, is_some, Some, None, Ok, Err, Option, Result, ◌==◌, nat_lt, slice_index_or, slice_set}
+use Rattle.std.specs.Prelude.{◌≡◌, ℕ, ◌+◌, Bool, true, if◌then◌else◌, not, ◌&&◌, ◌||◌, List, [], ◌∷◌, length, is_some, Some, None, Ok, Err, Option, Result, find, ◌==◌, nat_lt}
+use Rattle.std.specs.Option.{option_map}
 use Rattle.library.specs.declared.patch.Patch.{Patch}
 use Rattle.library.specs.declared.patch_table.Entry.{Entry}
 use Rattle.library.specs.declared.patch_table.PatchTable.{PatchTable}
@@ -7,63 +8,48 @@ use Rattle.library.specs.declared.refusal.Refusal.{Refusal}
 use Rattle.library.specs.declared.refusal.Refusal.TheVariants.{PatchesFull}
 use Rattle.library.specs.Fault.{Cell}
 
--- the entries in use
-abbrev pub kept : PatchTable → List Entry
-kept t = take t.count t.entries
-
--- one further
-abbrev pub next : Option ℕ → Option ℕ
-next None = None
-next (Some i) = Some (i + 1)
-
--- the index of the entry for place p
-abbrev pub position_of : List Entry → ℕ → Option ℕ
-position_of [] p = None
-position_of (e ∷ es) p = cond (e.place == p) (Some 0) (next (position_of es p))
+-- the entries, in the order in which their places were first kept
+abbrev pub kept_entries : PatchTable → List Entry
+kept_entries t = t.entries.items
 
 -- an entry
-abbrev pub keeping : ℕ → ℕ → Entry
-keeping q w = record { place = q; word = w }
+abbrev pub entry_for : ℕ → ℕ → Entry
+entry_for q w = record { place = q; word = w }
 
--- the word of the entry at an index
-abbrev pub word_of : List Entry → Option ℕ → Option ℕ
-word_of es None = None
-word_of es (Some i) = Some (slice_index_or es i (keeping 0 0)).word
+-- whether an entry is for place p
+abbrev pub is_for : ℕ → Entry → Bool
+is_for p e = e.place == p
 
 -- the word kept for place p
 abbrev pub kept_word : List Entry → ℕ → Option ℕ
-kept_word es p = word_of es (position_of es p)
+kept_word es p = option_map (λ e. e.word) (find (is_for p) es)
 
--- the entries with e at an index, or else behind the last
-abbrev pub placed : List Entry → Option ℕ → Entry → List Entry
-placed es None e = es ++ e ∷ []
-placed es (Some i) e = slice_set es i e
-
--- the entries with word w for place q, in its entry or in a new one
+-- the entries with word w for place q, in its entry or in a new one behind the last
 abbrev pub with_patch : List Entry → ℕ → ℕ → List Entry
-with_patch es q w = placed es (position_of es q) (keeping q w)
+with_patch [] q w = entry_for q w ∷ []
+with_patch (e ∷ es) q w = if is_for q e then entry_for q w ∷ es else e ∷ with_patch es q w
 
 -- whether the kept places differ from one another
-abbrev pub distinct : List Entry → Bool
-distinct [] = true
-distinct (e ∷ es) = not (is_some (kept_word es e.place)) && distinct es
+abbrev pub places_differ : List Entry → Bool
+places_differ [] = true
+places_differ (e ∷ es) = not (is_some (kept_word es e.place)) && places_differ es
 
 -- whether place q is kept or there is room for it
 abbrev pub has_room : PatchTable → ℕ → Bool
-has_room t q = is_some (position_of (kept t) q) || nat_lt t.count 16
+has_room t q = is_some (kept_word (kept_entries t) q) || nat_lt (length (kept_entries t)) 16
 
 -- a seventeenth place is refused
 abbrev pub patch_answer : PatchTable → ℕ → Result Unit Refusal
-patch_answer t q = cond (has_room t q) (Ok tt) (Err PatchesFull)
+patch_answer t q = if has_room t q then Ok tt else Err PatchesFull
 
 -- how many places table t keeps once it keeps place q
 abbrev pub count_with : PatchTable → ℕ → ℕ
-count_with t q = cond (is_some (position_of (kept t) q)) t.count (t.count + 1)
+count_with t q = if is_some (kept_word (kept_entries t) q) then length (kept_entries t) else length (kept_entries t) + 1
 
 -- Table u is table t with word w for place q.
 pub record WithPatch (q w : ℕ) (t u : PatchTable) : Type 0 where
-  pub entries : kept u ≡ with_patch (kept t) q w
-  pub count : u.count ≡ count_with t q
+  pub entries : kept_entries u ≡ with_patch (kept_entries t) q w
+  pub count : length (kept_entries u) ≡ count_with t q
 
 -- the kept word, or else what is below
 abbrev pub kept_or : Option ℕ → Cell → Cell
@@ -71,13 +57,13 @@ kept_or None c = c
 kept_or (Some w) c = Ok w
 
 -- what is given at place p over some cells
-abbrev pub overlaid : List Entry → (ℕ → Cell) → ℕ → Cell
-overlaid es cells p = kept_or (kept_word es p) (cells p)
+abbrev pub overlaid_cell : List Entry → (ℕ → Cell) → ℕ → Cell
+overlaid_cell es cells p = kept_or (kept_word es p) (cells p)
 
 -- what a patch layer gives at place p
 abbrev pub patch_cell : {L : Type 0} → (L → ℕ → Cell) → Patch L → ℕ → Cell
-patch_cell cell s p = overlaid (kept s.table) (cell s.below) p
+patch_cell cell s p = overlaid_cell (kept_entries s.table) (cell s.below) p
 
 -- the cells below that the answer at place p is read off
 abbrev pub patch_reads : {L : Type 0} → (L → ℕ → Cell) → Patch L → ℕ → List Cell
-patch_reads cell s p = cond (is_some (kept_word (kept s.table) p)) [] (cell s.below p ∷ [])
+patch_reads cell s p = if is_some (kept_word (kept_entries s.table) p) then [] else cell s.below p ∷ []

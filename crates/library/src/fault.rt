@@ -2,6 +2,7 @@
 ghost use Rattle.std.specs.Prelude.{◌≡◌, Some};
 ghost use Rattle.library.specs.Fault.{cause_number, cause_text, fault_text};
 
+use std::error::Error;
 use std::fmt;
 
 #[derive(Clone, Copy, PartialEq, Debug)]
@@ -12,6 +13,7 @@ pub enum Cause {
 }
 
 impl Cause {
+    // A `From` into `u8` would not say what the number is.
     pub fn number(self) -> u8
         ensures { result ≡ cause_number self }
     {
@@ -44,10 +46,14 @@ impl fmt::Display for Fault {
     ghost output = { λ f. Some (fault_text f) };
 
     fn fmt<W: fmt::Write>(&self, f: &mut fmt::Formatter<W>) -> fmt::Result {
-        let layer = self.layer;
-        let number = self.cause.number();
-        let cause = self.cause;
-        let place = self.place;
+        let Fault {
+            layer,
+            cause,
+            place,
+        } = *self;
+        let number = cause.number();
         write!(f, "layer {layer}, cause {number} ({cause}), place {place}")
     }
 }
+
+impl Error for Fault {}

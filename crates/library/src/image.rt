@@ -27,21 +27,16 @@ impl<'a> Library for Image<'a> {
         0
     }
 
+    #[tactic(auto, using(crate::proofs::Images::word_at))]
     fn ask(&mut self, place: u32) -> Result<u32, Fault> {
-        let at = place as usize * 4;
-        if at + 4 > self.bytes.len() {
-            return Err(Fault {
+        let (words, _) = self.bytes.as_chunks::<4>();
+        words
+            .get(place as usize)
+            .map(|bytes| u32::from_be_bytes(*bytes))
+            .ok_or(Fault {
                 layer: 0,
                 cause: Cause::BeyondEnd,
                 place,
-            });
-        }
-        let word = [
-            self.bytes[at],
-            self.bytes[at + 1],
-            self.bytes[at + 2],
-            self.bytes[at + 3],
-        ];
-        Ok(u32::from_be_bytes(word))
+            })
     }
 }

@@ -1,17 +1,66 @@
 // Up to sixteen places, each with its word.
-ghost use Rattle.std.specs.Prelude.{◌≤◌};
+ghost use Rattle.std.specs.Prelude.{◌≡◌, ◌≤◌, [], length, position, MatchResult};
+ghost use Rattle.library.specs.declared.refusal.Refusal.TheVariants.{PatchesFull};
 
-mod methods;
+use crate::refusal::Refusal;
+use arrayvec::{ArrayVec, CapacityError};
 
-#[derive(Clone, Copy)]
+#[derive(Clone, Copy, Default)]
 struct Entry {
     place: u32,
     word: u32,
 }
 
-#[derive(Clone, Copy)]
+#[derive(Drop)]
 pub(crate) struct PatchTable {
-    entries: [Entry; 16],
-    count: usize,
-    ghost few: { count ≤ 16 },
+    entries: ArrayVec<Entry, 16>,
+    ghost few: { length entries.items ≤ 16 },
+}
+
+impl PatchTable {
+    ghost use Rattle.library.specs.Patch.{WithPatch, is_for, kept_entries, kept_word, patch_answer};
+
+    pub(crate) fn empty() -> PatchTable
+        ensures { kept_entries result ≡ [] }
+    {
+        PatchTable {
+            entries: ArrayVec::new(),
+        }
+    }
+
+    pub(crate) fn word_at(&self, place: u32) -> Option<u32>
+        ensures { result ≡ kept_word (kept_entries self.now) place }
+    {
+        self.entries
+            .iter()
+            .find(|entry| entry.place == place)
+            .map(|entry| entry.word)
+    }
+
+    // The index of the entry for `place`.
+    fn position(&self, place: u32) -> Option<usize>
+        ensures { result ≡ position (is_for place) (kept_entries self.now) }
+    {
+        self.entries.iter().position(|entry| entry.place == place)
+    }
+
+    pub(crate) fn keep(&mut self, place: u32, word: u32) -> Result<(), Refusal>
+        ensures answer { result ≡ patch_answer self.old place }
+        ensures after { MatchResult result (λ _. WithPatch place word self.old self.new) (λ _. self.new ≡ self.old) }
+    {
+        let entry = Entry { place, word };
+        match self.position(place) {
+            Some(at) => self.entries[at] = entry,
+            None => self.entries.try_push(entry)?,
+        }
+        Ok(())
+    }
+}
+
+impl From<CapacityError<Entry>> for Refusal {
+    ghost from_gives = { λ _ r. r ≡ PatchesFull };
+
+    fn from(_full: CapacityError<Entry>) -> Refusal {
+        Refusal::PatchesFull
+    }
 }

@@ -9,6 +9,7 @@ use crate::library::Library;
 // `count` places that all hold `word`, readable where `kind` is 0.
 #[derive(Clone, Copy, PartialEq, Debug)]
 pub struct Run {
+    // Any byte, as in the caller's list: an enum would leave kinds out.
     pub kind: u8,
     pub count: u16,
     pub word: u32,
@@ -32,7 +33,7 @@ impl<'a> RunTable<'a> {
     {
         let counted = self.runs.len().min(16);
         let mut start = 0;
-        for run in &self.runs[0..counted] {
+        for run in &self.runs[..counted] {
             let end = start + u32::from(run.count);
             if place < end {
                 return Some(*run);

@@ -1,7 +1,8 @@
 // A part of the library below, from a base on.
 ghost use Rattle.std.specs.Prelude.{◌≡◌};
-ghost use Rattle.library.specs.Fault.{above};
-ghost use Rattle.library.specs.Laws.{OneWindow, PassesFaults, SameMeaning};
+ghost use Rattle.library.specs.Fault.{layer_above};
+ghost use Rattle.library.specs.Laws.{OneWindow, PassesFaults};
+ghost use Rattle.library.specs.Library.{SameMeaning};
 ghost use Rattle.library.specs.Window.{window_cell, window_reads};
 
 use crate::fault::{Cause, Fault};
@@ -35,7 +36,7 @@ impl<L: Library> Window<L> {
 }
 
 impl<L: Library> Library for Window<L> {
-    ghost layer = { λ w. above (L.Library.layer w.below) };
+    ghost layer = { λ w. layer_above (L.Library.layer w.below) };
 
     ghost cell = { window_cell L.Library.layer L.Library.cell };
 
@@ -45,21 +46,19 @@ impl<L: Library> Library for Window<L> {
 
     fn ask(&mut self, place: u32) -> Result<u32, Fault>
         ensures answer { result ≡ window_cell L.Library.layer L.Library.cell self.old place }
-        ensures same_layer { above (L.Library.layer self.new.below) ≡ above (L.Library.layer self.old.below) }
-        ensures same_cells { window_cell L.Library.layer L.Library.cell self.new ≡ window_cell L.Library.layer L.Library.cell self.old }
+        ensures same_meaning { SameMeaning (λ w. layer_above (L.Library.layer w.below)) (window_cell L.Library.layer L.Library.cell) self.old self.new }
         ensures same_base { self.new.base ≡ self.old.base }
         ensures same_length { self.new.length ≡ self.old.length }
         ensures below { SameMeaning L.Library.layer L.Library.cell self.old.below self.new.below }
-        ensures passes_faults { PassesFaults (above (L.Library.layer self.old.below)) place (window_reads L.Library.cell self.old place) result }
+        ensures passes_faults { PassesFaults (layer_above (L.Library.layer self.old.below)) place (window_reads L.Library.cell self.old place) result }
     {
-        if place < self.length && place <= u32::MAX - self.base {
-            return self.below.ask(self.base + place);
+        match self.base.checked_add(place) {
+            Some(at) if place < self.length => self.below.ask(at),
+            _ => Err(Fault {
+                layer: self.layer_number(),
+                cause: Cause::BeyondEnd,
+                place,
+            }),
         }
-        let layer = self.layer_number();
-        Err(Fault {
-            layer,
-            cause: Cause::BeyondEnd,
-            place,
-        })
     }
 }

@@ -4,7 +4,7 @@
 mod card;
 mod show;
 
-use anyhow::{Context, anyhow};
+use anyhow::Context;
 use card::{NEW_CHECK_WORD, NEW_WORD, card_bytes};
 use library::{Check, Image, Patch, Window};
 use port::{BitTurn, Content, Plane, Port, Record, Tape, load};
@@ -13,9 +13,8 @@ use show::{read_file, show_list};
 // The words of the file on a card, as far as they are given.
 fn read_card(rt: &HostRuntime, bytes: &[u8]) -> anyhow::Result<Vec<u32>> {
     let mut patch = Patch::new(Window::new(Image::new(bytes), 4, 18));
-    if patch.patch(6, NEW_WORD).is_err() || patch.patch(8, NEW_CHECK_WORD).is_err() {
-        return Err(anyhow!("there is no room for two patches"));
-    }
+    patch.patch(6, NEW_WORD)?;
+    patch.patch(8, NEW_CHECK_WORD)?;
     read_file(rt, &mut Check::new(patch))
 }
 

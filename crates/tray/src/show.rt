@@ -23,6 +23,7 @@ pub(crate) fn read_file<L: Library>(rt: &HostRuntime, library: &mut L) -> anyhow
 
 // Prints the list of partition `s`, eight words to a line.
 pub(crate) fn show_list<P: Port>(rt: &HostRuntime, port: &P, s: u32) -> anyhow::Result<()> {
+    // By index, since a port is asked for one word at a time.
     for index in 0..port.length(s) {
         if let Some(word) = port.word(s, index) {
             print!(rt; " {word:08x}")?;

@@ -1,35 +1,22 @@
-use Rattle.std.proofs.Common.{refl, arith, rules}
-use Rattle.library.proofs.Entries.{added, appended, full, replaced, taken}
+use Rattle.std.proofs.Common.{refl, ◌≡◌, ◌++◌, [], ◌∷◌, length, Err, rules, ◌∙◌}
+use Rattle.library.specs.declared.refusal.Refusal.TheVariants.{PatchesFull}
+use Rattle.library.specs.Patch.{entry_for, kept_entries}
+use Rattle.library.proofs.Entries.{appended, full, replaced, taken}
 use Rattle.library.proofs.patch_table.PatchTable.keep.Goals as goal
 
-pub offset_bounds-self-i : goal.offset_bounds-self-i
-offset_bounds-self-i c = omega (arith, c.in-Some.ensures.bound, c.args.self.now.few)
+pub returns-in_err-try_push-in-None-clause-answer : goal.returns-in_err-try_push-in-None-clause-answer
+returns-in_err-try_push-in-None-clause-answer c =
+    let is : c.from_residual.result ≡ Err PatchesFull = search rules in
+    let many : length (kept_entries c.args.self.now) ≡ 16 = search rules in
+    is ∙ full c.args.self.now c.args.place c.args.word c.in-None.ensures many
 
-pub bounds-self-i : goal.bounds-self-i
-bounds-self-i c = omega (arith, c.in-Some.ensures.bound, c.args.self.now.few)
+pub returns-in-Some-clause-answer : goal.returns-in-Some-clause-answer
+returns-in-Some-clause-answer c = taken c.args.self.now c.args.place c.args.word c.in-Some.at c.in-Some.ensures
 
-pub returns-in-Some : goal.returns-in-Some
-returns-in-Some c =
-    let t = c.args.self.now in
-    let at = c.in-Some.ensures in
-    record {
-      answer = taken t c.args.place c.in-Some.i at.bound at.value;
-      after = replaced t c.args.place c.in-Some.i at.bound at.value _ c.args.word refl refl;
-    }
+pub returns-in-Some-clause-after : goal.returns-in-Some-clause-after
+returns-in-Some-clause-after c = replaced c.args.self.now c.args.place c.args.word c.in-Some.at c.in-Some.ensures _ _ c.deref_mut.ensures.value refl
 
-pub returns-in-None : goal.returns-in-None
-returns-in-None c =
-    let t = c.args.self.now in
-    let missing = c.in-None.ensures.value in
-    let pushed = c.push.ensures in
-    record {
-      answer = added t c.args.place missing (search rules);
-      after = appended t c.args.place missing c.push.new.self c.args.word pushed.fits pushed.entries pushed.count;
-    }
-
-pub returns-in-None-2 : goal.returns-in-None-2
-returns-in-None-2 c =
-    record {
-      answer = full c.args.self.now c.args.place c.in-None.ensures.value (search rules);
-      after = refl;
-    }
+pub returns-in_ok-try_push-in-None-clause-after : goal.returns-in_ok-try_push-in-None-clause-after
+returns-in_ok-try_push-in-None-clause-after c =
+    let items : c.try_push.new.self.items ≡ kept_entries c.args.self.now ++ entry_for c.args.place c.args.word ∷ [] = search rules in
+    appended c.args.self.now c.args.place c.args.word c.in-None.ensures _ items
