@@ -1,5 +1,6 @@
 // Each port on tables of calls.
-use port::{BitTurn, Content, Plane, Port, Record, Tape, load, put_all, turn};
+use port::{BitTurn, Content, Plane, Port, Record, Refused, Tape, load, put_all, turn};
+use std::test::Fail;
 
 fn mark(partition: u32) -> Record {
     Record {
@@ -37,18 +38,18 @@ fn a_plane_is_cut_into_eight(rt: HostRuntime) {
     assert_eq!(rt; plane.partitions(), 8);
     assert_eq!(rt; plane.opened(), None);
     assert_eq!(rt; plane.room(), 0);
-    assert!(rt; !plane.put(1));
-    assert!(rt; !plane.close());
-    assert!(rt; !plane.open(8));
-    assert!(rt; plane.open(7));
-    assert!(rt; !plane.open(3));
+    assert_eq!(rt; plane.put(1), Err(Refused));
+    assert_eq!(rt; plane.close(), Err(Refused));
+    assert_eq!(rt; plane.open(8), Err(Refused));
+    assert_eq!(rt; plane.open(7), Ok(()));
+    assert_eq!(rt; plane.open(3), Err(Refused));
     assert_eq!(rt; plane.opened(), Some(7));
     assert_eq!(rt; plane.room(), 2);
-    assert!(rt; plane.put(5));
-    assert!(rt; plane.put(6));
-    assert!(rt; !plane.put(7));
+    assert_eq!(rt; plane.put(5), Ok(()));
+    assert_eq!(rt; plane.put(6), Ok(()));
+    assert_eq!(rt; plane.put(7), Err(Refused));
     assert_eq!(rt; plane.length(7), 2);
-    assert!(rt; plane.close());
+    assert_eq!(rt; plane.close(), Ok(()));
 }
 
 #[test]
@@ -64,7 +65,7 @@ fn a_plane_fills_its_partitions(rt: HostRuntime) {
     assert_eq!(rt; plane.word(0, 0), Some(1));
     assert_eq!(rt; plane.word(0, 1), None);
     assert_eq!(rt; plane.length(8), 0);
-    assert!(rt; plane.open(0));
+    assert_eq!(rt; plane.open(0), Ok(()));
     assert_eq!(rt; plane.length(0), 0);
     assert!(rt; !plane.is_spent());
     drop(plane);
@@ -75,9 +76,9 @@ fn a_plane_fills_its_partitions(rt: HostRuntime) {
 fn a_small_plane_has_no_room(rt: HostRuntime) {
     let mut cells = [9; 7];
     let mut plane = Plane::new(&mut cells);
-    assert!(rt; plane.open(3));
+    assert_eq!(rt; plane.open(3), Ok(()));
     assert_eq!(rt; plane.room(), 0);
-    assert!(rt; !plane.put(1));
+    assert_eq!(rt; plane.put(1), Err(Refused));
     assert_eq!(rt; put_all(&mut plane, &[1, 2]), 0);
     assert_eq!(rt; plane.length(3), 0);
 }
@@ -88,24 +89,31 @@ fn a_tape_keeps_marks_and_words(rt: HostRuntime) {
     let mut tape = Tape::new(&mut records);
     assert_eq!(rt; tape.length(3), 0);
     assert_eq!(rt; tape.room(), 0);
-    assert!(rt; tape.open(3));
+    assert_eq!(rt; tape.open(3), Ok(()));
     assert_eq!(rt; tape.room(), 5);
-    assert!(rt; tape.put(1));
-    assert!(rt; tape.put(2));
-    assert!(rt; tape.close());
+    assert_eq!(rt; tape.put(1), Ok(()));
+    assert_eq!(rt; tape.put(2), Ok(()));
+    assert_eq!(rt; tape.close(), Ok(()));
     assert_eq!(rt; tape.word(3, 1), Some(2));
     assert_eq!(rt; load(&mut tape, 5, &[8]), Some(1));
     assert_eq!(rt; tape.length(3), 2);
     assert_eq!(rt; tape.word(5, 0), Some(8));
-    assert!(rt; tape.open(3));
+    assert_eq!(rt; tape.open(3), Ok(()));
     assert_eq!(rt; tape.length(3), 0);
     assert!(rt; tape.is_spent());
-    assert!(rt; !tape.put(9));
-    assert!(rt; tape.close());
-    assert!(rt; !tape.open(3));
+    assert_eq!(rt; tape.put(9), Err(Refused));
+    assert_eq!(rt; tape.close(), Ok(()));
+    assert_eq!(rt; tape.open(3), Err(Refused));
     drop(tape);
     assert_eq!(rt; records[4], word(5, 8));
     assert_eq!(rt; records[5], mark(3));
+}
+
+#[test]
+fn a_refused_call_has_a_text(rt: HostRuntime) -> Result<(), Fail> {
+    let text = format!(in rt.alloc(); "{}", Refused)?;
+    assert_eq!(rt; text.as_str(), "the port does not accept this call");
+    Ok(())
 }
 
 #[test]
@@ -113,7 +121,7 @@ fn a_tape_of_no_records_is_spent(rt: HostRuntime) {
     let mut records: [Record; 0] = [];
     let mut tape = Tape::new(&mut records);
     assert!(rt; tape.is_spent());
-    assert!(rt; !tape.open(0));
+    assert_eq!(rt; tape.open(0), Err(Refused));
     assert_eq!(rt; tape.partitions(), 8);
     assert_eq!(rt; tape.opened(), None);
 }

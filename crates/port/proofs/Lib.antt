@@ -1,12 +1,8 @@
 pub mod Bits
-pub mod Exchange
 pub mod Histories
-pub mod Loads
+pub mod Lists
 pub mod Marked
-pub mod Places
-pub mod Planes
-pub mod Scans
+pub mod Reversed
 pub mod Stores
 pub mod Tapes
 pub mod Turned
-pub mod Turns

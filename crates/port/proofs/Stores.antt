@@ -1,72 +1,65 @@
 -- A word that is put into a plane's open partition.
-use Rattle.std.proofs.Common.{◌≡◌, ℕ, ◌+◌, ◌-◌, ◌*◌, ◌<◌, true, false, cond, ◌&&◌, ltb, ◌⊎◌, List, [], ◌∷◌, ◌++◌, length, get_or, take, set, is_some, Some, Option, sym, refl, ap, ◌∙◌, subst, inl, inr, arith}
-use mathlib.Core.Path.{fun_ext}
-use Rattle.std.proofs.lemmas.List.{get_or-set_other, get_or-set_same}
-use Rattle.std.proofs.lemmas.Bool.{and_from, cases_eq, cond-false, cond-true, eq-eqb, lt-ltb, ne_eqb}
-use Rattle.port.specs.declared.plane.Plane.{Plane}
-use Rattle.port.specs.Meaning.{Meaning, after_put, extended, takes}
-use Rattle.port.specs.Plane.{Apart, list_of, partition_of, plane_means, room_of, size_of, stored}
-use Rattle.port.proofs.Planes.{a_list, behind, elsewhere, longer, same_size}
+use Rattle.std.proofs.Common.{◌≡◌, ℕ, ◌+◌, ◌-◌, ◌*◌, ◌<◌, ◌≤◌, false, cond, ◌⊎◌, List, [], ◌∷◌, ◌++◌, length, get_or, take, drop, set, Some, Option, ap, ◌∙◌, inl, inr, arith, length-drop, length-take}
+use lib.Seq.{take-set-lt}
+use Rattle.std.proofs.lemmas.Nat.{mul-add-lt, mul-le}
+use Rattle.std.proofs.lemmas.List.{drop-set-add, drop-set-lt, get_or-set_other, get_or-set_same, length-set, take_more_set, take-set-le}
+use Rattle.std.proofs.lemmas.Bool.{cases_lt}
+use Rattle.std.proofs.lemmas.Bool.Decides.{nat_tests}
+use Rattle.port.specs.Meaning.{Meaning, after_put, takes}
+use Rattle.port.specs.Partitions.{Apart, list_of, partition_of, room_of, size_of}
 
 abbrev means : List ℕ → List ℕ → Option ℕ → Meaning
 means cells used o = record { partitions = 8; words = list_of cells used; opened = o; room = room_of cells used o; spent = false }
 
--- what the plane of these words means after one more in partition s
-module _ (cells used : List ℕ) (s w : ℕ) (h : s < 8) (within : s < length used) (l : get_or used s 0 < size_of cells) where
-  abbrev n : ℕ
-  n = get_or used s 0
+-- a partition has its size
+module _ (cells : List ℕ) (s : ℕ) (h : s < 8) where
+  length-partition_of : length (partition_of cells s) ≡ size_of cells
+  length-partition_of = simp (length-take, length-drop) (omega (arith, mul-le s (size_of cells) 7 (size_of cells) (omega arith) (omega arith)))
 
-  abbrev cells' : List ℕ
-  cells' = set cells (s * size_of cells + n) w
+-- word w stored at index n of partition s
+module _ (cells : List ℕ) (s n w : ℕ) (h : s < 8) (l : n < size_of cells) where
+  abbrev after : List ℕ
+  after = set cells (s * size_of cells + n) w
 
-  abbrev used' : List ℕ
-  used' = set used s (n + 1)
+  same_size : size_of after ≡ size_of cells
+  same_size = simp length-set
 
-  counted : get_or used' s 0 ≡ n + 1
-  counted = get_or-set_same used s (n + 1) 0 within
+  -- partition t of the words after, by the size before
+  part : (t : ℕ) → partition_of after t ≡ take (size_of cells) (drop (t * size_of cells) after)
+  part t = rw same_size
 
-  list : (t : ℕ) → (t ≡ s) ⊎ (t ≡ s → ⊥) → list_of cells' used' t ≡ extended (Some s) w (list_of cells used) t
-  list t (inl e) =
-      subst (λ (x : ℕ). list_of cells' used' x ≡ extended (Some s) w (list_of cells used) x) (sym e)
-      (a_list cells' used' s h ∙ ap (λ (k : ℕ). take k (partition_of cells' s)) counted ∙ longer cells s n w h l ∙
-      ap (λ (xs : List ℕ). xs ++ w ∷ []) (sym (a_list cells used s h)) ∙ sym (cond-true _ _ _ (eq-eqb s s refl)))
-  list t (inr e) =
-      ap (λ (xs : List ℕ). cond (ltb t 8) xs [])
-      (ap (λ (k : ℕ). take k (partition_of cells' t)) (get_or-set_other used s t (n + 1) 0 e) ∙ ap (take (get_or used t 0)) (elsewhere cells s n w h l t e)) ∙
-      sym (cond-false _ _ _ (ne_eqb t s e))
+  here : partition_of after s ≡ set (partition_of cells s) n w
+  here = part s ∙ ap (take (size_of cells)) (drop-set-add (s * size_of cells) cells n w) ∙ take-set-lt (size_of cells) (drop (s * size_of cells) cells) n w l
 
-  one_more : means cells' used' (Some s) ≡ after_put w false (means cells used (Some s))
-  one_more =
-      let words : list_of cells' used' ≡ extended (Some s) w (list_of cells used) = fun_ext (λ t. list t (cases_eq t s)) in
-      let left : size_of cells' - get_or used' s 0 ≡ size_of cells - n - 1 = omega (arith, same_size cells s n w h l, counted) in
-      let here : ltb s 8 ≡ true = lt-ltb s 8 h in
-      let room : cond (ltb s 8) (size_of cells' - get_or used' s 0) 0 ≡ cond (ltb s 8) (size_of cells - n) 0 - 1 =
-      cond-true _ _ _ here ∙ left ∙ ap (λ (k : ℕ). k - 1) (sym (cond-true _ _ _ here)) in
-      λ i. record { partitions = 8; words = words i; opened = Some s; room = room i; spent = false }
+  elsewhere : (t : ℕ) → (t ≡ s → ⊥) → partition_of after t ≡ partition_of cells t
+  elsewhere t apart = part t ∙ by (cases_lt s t)
+    where
+      by : (s < t) ⊎ (t ≤ s) → take (size_of cells) (drop (t * size_of cells) after) ≡ partition_of cells t
+      by (inl below) = ap (take (size_of cells)) (drop-set-lt (t * size_of cells) cells (s * size_of cells + n) w (omega (arith, mul-le (s + 1) (size_of cells) t (size_of cells) (omega arith) (omega arith))))
+      by (inr above) =
+          let far : t * size_of cells + size_of cells ≤ s * size_of cells + n = omega (arith, mul-le (t + 1) (size_of cells) s (size_of cells) (omega arith) (omega arith)) in
+          let split : s * size_of cells + n ≡ t * size_of cells + (s * size_of cells + n - t * size_of cells) = omega arith in
+          ap (λ (k : ℕ). take (size_of cells) (drop (t * size_of cells) (set cells k w))) split ∙
+          ap (take (size_of cells)) (drop-set-add (t * size_of cells) cells (s * size_of cells + n - t * size_of cells) w) ∙
+          take-set-le (size_of cells) (drop (t * size_of cells) cells) (s * size_of cells + n - t * size_of cells) w (omega arith)
 
--- plane q is plane p with w stored in the open partition s
-module _ (p q : Plane) (s w : ℕ) (is : p.opened ≡ Some s) (h : s < 8) (l : get_or p.used s 0 < size_of p.cells.now) where
-  pub taken : true ≡ takes (plane_means p)
-  taken =
-      let room : 0 < size_of p.cells.now - get_or p.used s 0 = omega arith in
-      sym (lt-ltb 0 _ room) ∙ ap (ltb 0) (sym (cond-true _ _ _ (lt-ltb s 8 h))) ∙ ap (λ (o : Option ℕ). is_some o && ltb 0 (room_of p.cells.now p.used o)) (sym is)
+  longer : take (n + 1) (partition_of after s) ≡ take n (partition_of cells s) ++ w ∷ []
+  longer = ap (take (n + 1)) here ∙ take_more_set (partition_of cells s) n w (omega (arith, length-partition_of cells s h))
 
-  module _ (within : s < length p.used) (cells : q.cells.now ≡ set p.cells.now (s * size_of p.cells.now + get_or p.used s 0) w) (used : q.used ≡ set p.used s (get_or p.used s 0 + 1)) (opened : q.opened ≡ p.opened) where
-    pub meaning : plane_means q ≡ after_put w false (plane_means p)
-    meaning =
-        let cs = set p.cells.now (s * size_of p.cells.now + get_or p.used s 0) w in
-        let us = set p.used s (get_or p.used s 0 + 1) in
-        ap (λ (xs : List ℕ). means xs q.used q.opened) cells ∙
-        ap (λ (xs : List ℕ). means cs xs q.opened) used ∙
-        ap (means cs us) (opened ∙ is) ∙
-        one_more p.cells.now p.used s w h within l ∙
-        ap (λ (o : Option ℕ). after_put w false (means p.cells.now p.used o)) (sym is)
+  pub apart : (o : Option ℕ) → o ≡ Some s → Apart o cells (set cells (s * size_of cells + n) w)
+  apart o is = record {
+    others = λ t other. elsewhere t (λ e. other (rw e is));
+    behind = drop-set-lt (8 * size_of cells) cells (s * size_of cells + n) w (omega (arith, mul-add-lt s (size_of cells) n 8 h l));
+  }
 
-    pub buffer : q.cells.now ≡ stored p.cells.now p.used p.opened w
-    buffer = cells ∙ sym (cond-true _ _ _ (and_from _ _ (lt-ltb s 8 h) (lt-ltb _ _ l))) ∙ ap (λ (o : Option ℕ). stored p.cells.now p.used o w) (sym is)
-
-    pub apart : Apart p.opened p.cells.now q.cells.now
-    apart = subst (Apart p.opened p.cells.now) (sym cells) (record {
-      others = λ t other. elsewhere p.cells.now s (get_or p.used s 0) w h l t (λ e. other (is ∙ ap (λ (x : ℕ). Some x) (sym e)));
-      behind = behind p.cells.now s (get_or p.used s 0) w h l;
-    })
+-- what a plane of these words means after one more in the open partition s
+pub stored : (cells used : List ℕ) (s w : ℕ) → s < 8 → s < length used → get_or used s 0 < size_of cells → (o : Option ℕ) → o ≡ Some s →
+    means (set cells (s * size_of cells + get_or used s 0) w) (set used s (get_or used s 0 + 1)) o ≡ cond (takes (means cells used o)) (after_put w false (means cells used o)) (means cells used o)
+stored cells used s w h within l o is =
+    let n = get_or used s 0 in
+    let size = same_size cells s n w h l in
+    let here = longer cells s n w h l in
+    let others = elsewhere cells s n w h l in
+    let counted = get_or-set_same used s (n + 1) 0 within in
+    let uncounted = λ (t : ℕ). get_or-set_other used s t (n + 1) 0 in
+    grind (arith, nat_tests, size, here, others, counted, uncounted)

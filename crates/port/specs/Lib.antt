@@ -1,10 +1,11 @@
 pub mod BitTurn
-pub mod Held
 pub mod Load
 pub mod Marks
 pub mod Meaning
+pub mod Partitions
 pub mod Plane
-pub mod Scan
+pub mod Records
+pub mod Refused
 pub mod Steps
 pub mod Tape
 pub mod Turn

@@ -1,24 +1,8 @@
--- What a plane holds. Assumes nothing.
-use Rattle.std.specs.Prelude.{◌≡◌, ℕ, ◌+◌, ◌-◌, ◌*◌, ◌/◌, false, cond, ◌&&◌, ◌≢◌, List, [], length, take, drop, Some, None, Option, nat_lt, slice_index, slice_set}
+-- What a plane means. Assumes nothing.
+use Rattle.std.specs.Prelude.{false}
 use Rattle.port.specs.declared.plane.Plane.{Plane}
 use Rattle.port.specs.Meaning.{Meaning}
-
--- how many words a partition has: an eighth of the words, rounded down
-abbrev pub size_of : List ℕ → ℕ
-size_of cells = length cells / 8
-
--- the words of partition s, used or not
-abbrev pub partition_of : List ℕ → ℕ → List ℕ
-partition_of cells s = take (size_of cells) (drop (s * size_of cells) cells)
-
--- the list of partition s: its used words, if it is one of the eight
-abbrev pub list_of : List ℕ → List ℕ → ℕ → List ℕ
-list_of cells used s = cond (nat_lt s 8) (take (slice_index used s) (partition_of cells s)) []
-
--- the room left behind the used words of the open partition
-abbrev pub room_of : List ℕ → List ℕ → Option ℕ → ℕ
-room_of cells used None = 0
-room_of cells used (Some s) = cond (nat_lt s 8) (size_of cells - slice_index used s) 0
+use Rattle.port.specs.Partitions.{list_of, room_of}
 
 -- eight partitions, whose lists are their used words
 abbrev pub plane_means : Plane → Meaning
@@ -29,13 +13,3 @@ plane_means p = record {
   room = room_of p.cells.now p.used p.opened;
   spent = false;
 }
-
--- the caller's words after w was put behind the used words of the open partition, where it has room
-abbrev pub stored : List ℕ → List ℕ → Option ℕ → ℕ → List ℕ
-stored cells used None w = cells
-stored cells used (Some s) w = cond (nat_lt s 8 && nat_lt (slice_index used s) (size_of cells)) (slice_set cells (s * size_of cells + slice_index used s) w) cells
-
--- Partitions do not overlap: those that are not open keep all of their words, and so do the words behind the last.
-pub record Apart (open_one : Option ℕ) (before after : List ℕ) : Type 0 where
-  pub others : (t : ℕ) → open_one ≢ Some t → partition_of after t ≡ partition_of before t
-  pub behind : drop (8 * size_of before) after ≡ drop (8 * size_of before) before

@@ -5,15 +5,16 @@ mod bit_turn;
 mod loading;
 mod plane;
 mod port;
+mod refused;
 mod tape;
 mod tape_record;
-mod tape_scan;
 mod turning;
 
 pub use bit_turn::BitTurn;
 pub use loading::{load, put_all};
 pub use plane::Plane;
 pub use port::Port;
+pub use refused::Refused;
 pub use tape::Tape;
 pub use tape_record::{Content, Record};
 pub use turning::turn;

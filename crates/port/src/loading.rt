@@ -11,11 +11,13 @@ pub fn put_all<P: Port>(port: &mut P, words: &[u32]) -> usize
     ensures count { result ≡ min (space_of (P.Port.means port.old)) (length words.now) }
     ensures after { P.Port.means port.new ≡ after_puts (take result words.now) (P.Port.means port.new).spent (P.Port.means port.old) }
     ensures open_list { (s : ℕ) (ws : List ℕ) → Since s ws (P.Port.means port.old) → (P.Port.means port.new).words s ≡ ws ++ take result words.now }
-    ensures histories { OpenList × Untouched }
+    ensures histories { OpenList }
+    ensures untouched { Untouched }
     ensures none { result ≡ 0 → P.Port.means port.new ≡ P.Port.means port.old }
 {
+    // A loop, since each word changes the port, which a chain's closure would hide from the proof.
     for (i, word) in words.iter().enumerate() {
-        if !port.put(*word) {
+        if port.put(*word).is_err() {
             return i;
         }
     }
@@ -28,10 +30,9 @@ pub fn load<P: Port>(port: &mut P, s: u32, words: &[u32]) -> Option<usize>
     ensures answer { is_some result ≡ opens (P.Port.means port.old) s }
     ensures after { MatchOption result (P.Port.means port.new ≡ P.Port.means port.old) (λ n. Loaded s words.now n (P.Port.means port.old) (P.Port.means port.new)) }
 {
-    if !port.open(s) {
-        return None;
-    }
+    port.open(s).ok()?;
     let count = put_all(port, words);
-    port.close();
+    // The partition is open, so this is never refused.
+    let _ = port.close();
     Some(count)
 }

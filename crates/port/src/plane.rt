@@ -1,29 +1,38 @@
 // The caller's words, cut into eight partitions of equal size.
-ghost use Rattle.std.specs.Prelude.{◌≡◌, ◌+◌, ◌*◌, ◌<◌, min, false, length, replicate, if◌then◌else◌, None, slice_index, slice_set};
-ghost use Rattle.port.specs.Meaning.{fresh, opens, takes, closes, after_open, after_put, after_close};
+ghost use Rattle.std.specs.Prelude.{◌≡◌, ℕ, ◌<◌, ◌≤◌, false, replicate, if◌then◌else◌, is_ok, None, slice_index};
+ghost use Rattle.std.specs.Option.{ForSome};
+ghost use Rattle.port.specs.Meaning.{fresh_port, opens, takes, closes, after_open, after_put, after_close};
+ghost use Rattle.port.specs.Partitions.{Apart, list_of, size_of, with_cell};
 ghost use Rattle.port.specs.Steps.{Step, opening, putting, closing};
-ghost use Rattle.port.specs.Plane.{Apart, plane_means, size_of, stored};
 
 use crate::port::Port;
+use crate::refused::Refused;
 
-// How many words of each partition are used, and which partition is open.
+const PARTITIONS: usize = 8;
+
+// The open partition is one of the eight, and no more words are used than a partition has.
 #[derive(Drop)]
 pub struct Plane<'a> {
     cells: &'a mut [u32],
-    used: [usize; 8],
+    // The cells are lent, so how many of each partition are used stands beside them.
+    used: [usize; PARTITIONS],
     opened: Option<u32>,
+    ghost one_of_eight: { ForSome opened (λ s. s < 8) },
+    ghost within: { (s : ℕ) → slice_index used s ≤ size_of cells.now },
 }
 
 impl<'a> Plane<'a> {
+    ghost use Rattle.port.specs.Plane.{plane_means};
+
     pub fn new(cells: &'a mut [u32]) -> Plane<'a>
         ensures cells { result.cells.now ≡ cells.old }
         ensures used { result.used ≡ replicate 8 0 }
         ensures opened { result.opened ≡ None }
-        ensures meaning { plane_means result ≡ fresh 8 false }
+        ensures meaning { plane_means result ≡ fresh_port 8 false }
     {
         Plane {
             cells,
-            used: [0; 8],
+            used: [0; PARTITIONS],
             opened: None,
         }
     }
@@ -32,54 +41,29 @@ impl<'a> Plane<'a> {
     fn size(&self) -> usize
         ensures { result ≡ size_of self.now.cells.now }
     {
-        self.cells.len() / 8
+        self.cells.len() / PARTITIONS
     }
 
-    // Where word `index` of partition `s` lies.
-    fn place(&self, s: u32, index: usize) -> usize
-        requires { (s < 8) × (index < size_of self.now.cells.now) }
-        ensures value { result ≡ s * size_of self.now.cells.now + index }
-        ensures bound { result < length self.now.cells.now }
+    // The list of partition `s`, which is empty for a number that is no partition.
+    fn list(&self, s: u32) -> &[u32]
+        ensures { result.now ≡ list_of self.now.cells.now self.now.used s }
     {
-        s as usize * self.size() + index
-    }
-
-    // How many words partition `s` holds.
-    fn filled(&self, s: u32) -> usize
-        requires { s < 8 }
-        ensures { result ≡ min (slice_index self.now.used s) (size_of self.now.cells.now) }
-    {
-        self.used[s as usize].min(self.size())
-    }
-
-    // The word at `index` of partition `s`.
-    fn cell(&self, s: u32, index: usize) -> u32
-        requires { (s < 8) × (index < size_of self.now.cells.now) }
-        ensures { result ≡ slice_index self.now.cells.now (s * size_of self.now.cells.now + index) }
-    {
-        let at = self.place(s, index);
-        self.cells[at]
-    }
-
-    // Puts `word` behind the `index` words that partition `s` holds.
-    fn store(&mut self, s: u32, index: usize, word: u32)
-        requires { (s < 8) × (index < size_of self.old.cells.now) }
-        ensures cells { self.new.cells.now ≡ slice_set self.old.cells.now (s * size_of self.old.cells.now + index) word }
-        ensures used { self.new.used ≡ slice_set self.old.used s (index + 1) }
-        ensures opened { self.new.opened ≡ self.old.opened }
-        ensures within { s < length self.old.used }
-    {
-        let place = self.place(s, index);
-        self.cells[place] = word;
-        self.used[s as usize] = index + 1;
+        let Some(used) = self.used.get(s as usize) else {
+            return &[];
+        };
+        let start = s as usize * self.size();
+        &self.cells[start..start + *used]
     }
 }
 
 impl<'a> Port for Plane<'a> {
+    ghost use Rattle.std.proofs.Common.{rules};
+    ghost use Rattle.port.specs.Plane.{plane_means};
+
     ghost means = { plane_means };
 
     fn partitions(&self) -> u32 {
-        8
+        PARTITIONS as u32
     }
 
     fn opened(&self) -> Option<u32> {
@@ -87,9 +71,10 @@ impl<'a> Port for Plane<'a> {
     }
 
     fn room(&self) -> usize {
+        // A match, since a closure would not know that the partition is one of the eight.
         match self.opened {
-            Some(s) if s < 8 => self.size().saturating_sub(self.used[s as usize]),
-            _ => 0,
+            Some(s) => self.size() - self.used[s as usize],
+            None => 0,
         }
     }
 
@@ -98,62 +83,54 @@ impl<'a> Port for Plane<'a> {
     }
 
     fn length(&self, s: u32) -> usize {
-        if s >= 8 {
-            return 0;
-        }
-        self.filled(s)
+        self.list(s).len()
     }
 
     fn word(&self, s: u32, index: usize) -> Option<u32> {
-        if index >= self.length(s) {
-            return None;
-        }
-        Some(self.cell(s, index))
+        self.list(s).get(index).copied()
     }
 
-    fn open(&mut self, s: u32) -> bool
-        ensures answer { result ≡ opens (plane_means self.old) s }
+    fn open(&mut self, s: u32) -> Result<(), Refused>
+        ensures answer { is_ok result ≡ opens (plane_means self.old) s }
         ensures after { Step (opening s) (plane_means self.old) (plane_means self.new) }
         ensures meaning { plane_means self.new ≡ (if opens (plane_means self.old) s then after_open s (size_of self.old.cells.now) false (plane_means self.old) else plane_means self.old) }
         ensures buffer { self.new.cells.now ≡ self.old.cells.now }
     {
-        if self.opened.is_some() || s >= 8 {
-            return false;
+        if self.opened.is_some() || s >= self.partitions() {
+            return Err(Refused);
         }
         self.used[s as usize] = 0;
         self.opened = Some(s);
-        true
+        Ok(())
     }
 
-    fn put(&mut self, word: u32) -> bool
-        ensures answer { result ≡ takes (plane_means self.old) }
+    fn put(&mut self, word: u32) -> Result<(), Refused>
+        ensures answer { is_ok result ≡ takes (plane_means self.old) }
         ensures after { Step (putting word) (plane_means self.old) (plane_means self.new) }
         ensures meaning { plane_means self.new ≡ (if takes (plane_means self.old) then after_put word false (plane_means self.old) else plane_means self.old) }
-        ensures buffer { self.new.cells.now ≡ stored self.old.cells.now self.old.used self.old.opened word }
+        ensures buffer { self.new.cells.now ≡ with_cell self.old.cells.now self.old.used self.old.opened word }
         ensures apart { Apart self.old.opened self.old.cells.now self.new.cells.now }
     {
-        let Some(s) = self.opened else {
-            return false;
-        };
-        if s >= 8 {
-            return false;
+        let s = self.opened.ok_or(Refused)? as usize;
+        let size = self.size();
+        let index = self.used[s];
+        if index == size {
+            return Err(Refused);
         }
-        let index = self.used[s as usize];
-        if index >= self.size() {
-            return false;
-        }
-        self.store(s, index, word);
-        true
+        self.cells[s * size + index] = word;
+        self.used[s] = index + 1;
+        Ok(())
     }
 
-    fn close(&mut self) -> bool
-        ensures answer { result ≡ closes (plane_means self.old) }
+    fn close(&mut self) -> Result<(), Refused>
+        ensures answer { is_ok result ≡ closes (plane_means self.old) }
         ensures after { Step closing (plane_means self.old) (plane_means self.new) }
         ensures meaning { plane_means self.new ≡ (if closes (plane_means self.old) then after_close false (plane_means self.old) else plane_means self.old) }
         ensures buffer { self.new.cells.now ≡ self.old.cells.now }
     {
-        let was_open = self.opened.is_some();
-        self.opened = None;
-        was_open
+        self.opened.take().ok_or(Refused)?;
+        Ok(())
     }
+
+    ghost no_room = { λ p none. Prim.search rules };
 }

@@ -1,23 +1,20 @@
-use Rattle.std.proofs.Common.{◌<◌, get_or, sym, ◌∙◌, arith}
-use Rattle.std.proofs.lemmas.Bool.{cond-true}
-use Rattle.port.specs.Plane.{size_of}
-use Rattle.port.proofs.Stores.{apart, buffer, meaning, taken}
+use Rattle.std.proofs.Common.{◌≡◌, get_or, Some, arith, rules}
+use Rattle.port.proofs.Stores.{apart, stored}
 use Rattle.port.proofs.plane.PlanePort.put.Goals as goal
 
-pub returns : goal.returns
-returns c =
+pub returns-clause-apart : goal.returns-clause-apart
+returns-clause-apart c =
     let p = c.args.self.now in
-    let q = c.store.new.self in
-    let s = c.in-Some.s in
-    let told = c.store.ensures in
-    let l : get_or p.used s 0 < size_of p.cells.now = omega (arith, c.size.ensures, c.if-index-size.false) in
-    let h = c.if-s-ge8.false in
-    let accepted = taken p q s c.args.word c.in-Some.is h l in
-    let after = meaning p q s c.args.word c.in-Some.is h l told.within told.cells told.used told.opened ∙ sym (cond-true _ _ _ (sym accepted)) in
-    record {
-      answer = accepted;
-      after = after;
-      meaning = after;
-      buffer = buffer p q s c.args.word c.in-Some.is h l told.within told.cells told.used told.opened;
-      apart = apart p q s c.args.word c.in-Some.is h l told.within told.cells told.used told.opened;
-    }
+    let s = c.in_ok-s.field-0 in
+    let is : p.opened ≡ Some s = search rules in
+    rw c.size-size.ensures (apart p.cells.now s (get_or p.used s 0) c.args.word (p.one_of_eight s is) (omega (arith, p.within s)) p.opened is)
+
+pub returns-clause-meaning : goal.returns-clause-meaning
+returns-clause-meaning c =
+    let p = c.args.self.now in
+    let s = c.in_ok-s.field-0 in
+    let is : p.opened ≡ Some s = search rules in
+    rw c.size-size.ensures (stored p.cells.now p.used s c.args.word (p.one_of_eight s is) (search rules) (omega (arith, p.within s)) p.opened is)
+
+pub returns-clause-after : goal.returns-clause-after
+returns-clause-after = returns-clause-meaning

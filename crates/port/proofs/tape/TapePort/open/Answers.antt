@@ -1,27 +1,19 @@
-use Rattle.std.proofs.Common.{◌≡◌, true, Some, sym, refl, ◌∙◌, arith, rules}
-use Rattle.std.proofs.lemmas.Bool.{cond-true}
-use Rattle.port.specs.declared.tape.Tape.{Tape}
+use Rattle.std.proofs.Common.{◌≡◌, None, Some, rules}
+use Rattle.std.proofs.lemmas.List.{take_more_set}
 use Rattle.port.specs.declared.tape_record.Content.TheVariants.{Mark}
-use Rattle.port.specs.Meaning.{opens}
-use Rattle.port.specs.Tape.{tape_means}
+use Rattle.port.specs.Tape.{used_records}
 use Rattle.port.proofs.Marked.{entry_of}
-use Rattle.port.proofs.Tapes.{grows, mark_between, marked_now, open_so}
+use Rattle.port.proofs.Tapes.{mark_between}
 use Rattle.port.proofs.tape.TapePort.open.Goals as goal
 
-pub returns : goal.returns
-returns c =
+pub write-requires-clause-between_marks : goal.write-requires-clause-between_marks
+write-requires-clause-between_marks c =
     let t = c.args.self.now in
-    let s = c.args.s in
-    let u : Tape = record { records = c.write.new.self.records; used = c.write.new.self.used; opened = Some s } in
-    let told = c.write.ensures in
-    let accepted : true ≡ opens (tape_means t) s = search rules in
-    let is = marked_now t u s (omega arith) told.used told.records refl in
-    record {
-      answer = accepted;
-      after = open_so s _ _ (tape_means t) (tape_means u) is ∙ sym (cond-true _ _ _ (sym accepted));
-      meaning = is ∙ sym (cond-true _ _ _ (sym accepted));
-      buffer = told.records;
-      used = told.used;
-      between_marks = mark_between t u s (omega arith) told.used told.records refl;
-      grows = grows t u (entry_of s Mark) (omega arith) told.records told.used;
-    }
+    let none : t.opened ≡ None = search rules in
+    mark_between c.args.s (used_records t) t.opened t.opened t.between_marks (λ x is. cc)
+
+pub invariant_of-self-clause-between_marks : goal.invariant_of-self-clause-between_marks
+invariant_of-self-clause-between_marks c =
+    let t = c.args.self.now in
+    rw (c.write.ensures.records, c.write.ensures.used, take_more_set t.records.now t.used (entry_of c.args.s Mark) (search rules))
+    (mark_between c.args.s (used_records t) t.opened (Some c.args.s) t.between_marks (λ x is. cc))
