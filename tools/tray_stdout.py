@@ -2,7 +2,8 @@
 """Prints what the program `tray` should print, worked out from the rules in docs/MACHINE.md.
 
 It shares no code with the program: the layers are written here a second time, as functions
-from a place to a word or a fault. `tools/tray_stdout.py > crates/tray/stdout` stores it.
+from a place to a word or a fault, and the socket as a class.
+`tools/tray_stdout.py > crates/tray/stdout` stores it.
 """
 from functools import reduce
 from operator import xor
@@ -98,6 +99,86 @@ def load(words):
         print("The tape is spent: partition 3 cannot be opened again, and keeps its words.")
 
 
+class Socket:
+    """A socket that never fails: which stop kind, software start and reset each module asks for."""
+    OUTPUTS = {0: 2, 1: 1, 2: 4, 4: 2, 5: 10, 6: 16, 7: 0}
+    STOPS = {0: [], 1: [1], 2: [1, 2], 3: [2, 1]}
+
+    def __init__(self, kinds, starts, resets):
+        self.kinds, self.starts, self.resets = kinds, starts, resets
+        self.shutdown, self.state, self.module = True, 0, 0
+        self.level, self.held, self.pending = 0, False, None
+
+    def restart(self, module):
+        self.shutdown, self.state, self.module = False, 7, module
+
+    def next_stop(self):
+        # after the last stop step the socket waits for its new module
+        self.state = self.stops.pop(0) if self.stops else 4
+        if self.state == 4:
+            self.module = self.new
+
+    def start(self, states):
+        # the first of the states that the module asks for, or full
+        asked = {5: self.starts[self.module], 6: self.resets[self.module] is not None}
+        self.state = next((s for s in states if asked[s]), 7)
+        self.left = self.resets[self.module]
+
+    def step(self):
+        if self.state == 7 and self.held:
+            self.shutdown, self.held, self.pending = True, False, None
+        elif self.state == 7 and self.pending is not None:
+            self.new, self.pending = self.pending, None
+            self.stops = list(self.STOPS[self.kinds[self.module]])
+            self.next_stop()
+        elif self.state == 1 and self.level == 1:
+            self.next_stop()
+        elif self.state == 6:
+            self.left -= 1
+            self.state = 6 if self.left >= 0 else 7
+
+    def proceed(self):
+        if self.state == 2:
+            self.next_stop()
+        elif self.state == 5:
+            self.start([6])
+
+    def show(self, event):
+        shown = self.level if self.shutdown else self.state
+        word = self.module << 8 | self.shutdown << 7 | shown
+        print(f"  status {word:08x}, outputs {self.OUTPUTS[self.state]:05b}: {event}")
+
+
+def walk():
+    print("Made a socket of 2 modules and 2 triggers, and led it from module 0 to module 1:")
+    socket = Socket(kinds=[2, 0], starts=[False, True], resets=[None, 1])
+    socket.show("made, empty and in shutdown")
+    socket.restart(0)
+    socket.show("restarted, full with module 0")
+    socket.pending = 1
+    socket.show("trigger 1 is pending")
+    socket.step()
+    socket.show("it was taken up: hardware stop")
+    socket.level = 1
+    socket.step()
+    socket.show("the tray acknowledged it: software stop")
+    socket.proceed()
+    socket.show("proceeded: uncoupled, and waiting for module 1")
+    print("  the file has 64 bytes from byte 64 on")
+    socket.level = 0
+    socket.start([5, 6])
+    socket.show("loaded: software start")
+    socket.proceed()
+    socket.show("proceeded: module reset")
+    for _ in range(2):
+        socket.step()
+        socket.show("a tick later")
+    socket.held = True
+    socket.show("shutdown is held until the next tick")
+    socket.step()
+    socket.show("in shutdown, with module 1")
+
+
 def main():
     on_card = HEADER + [w for g in GROUPS for w in g + [reduce(xor, g)]]
     card = b"".join(w.to_bytes(4, "big") for w in on_card)
@@ -113,6 +194,7 @@ def main():
     print("Read a copy of the card that was cut off after 82 bytes:")
     read(card[:82])
     load(words)
+    walk()
 
 
 main()

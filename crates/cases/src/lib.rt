@@ -5,3 +5,5 @@
 mod libraries;
 #[cfg(test)]
 mod ports;
+#[cfg(test)]
+mod sockets;

@@ -1,11 +1,13 @@
-// Makes a module file, reads it through layers, and loads it into ports.
+// Makes a module file, reads it through layers, loads it into ports, and leads a socket from one module to another.
 #![tactic(auto)]
 
 mod card;
+mod change;
 mod show;
 
 use anyhow::Context;
 use card::{NEW_CHECK_WORD, NEW_WORD, card_bytes};
+use change::walk;
 use library::{Check, Image, Patch, Window};
 use port::{BitTurn, Content, Plane, Port, Record, Tape, load};
 use show::{read_file, show_list};
@@ -81,7 +83,8 @@ fn run(rt: &HostRuntime) -> anyhow::Result<()> {
     let words = read_card(rt, bytes.as_slice())?;
     read_copies(rt, bytes)?;
     load_plane(rt, words.as_slice())?;
-    load_tape(rt, words.as_slice())
+    load_tape(rt, words.as_slice())?;
+    walk(rt)
 }
 
 fn main(rt: HostRuntime) -> anyhow::Result<()> {
