@@ -4,6 +4,11 @@
 #[cfg(test)]
 mod libraries;
 #[cfg(test)]
+mod managers;
+#[cfg(test)]
 mod ports;
 #[cfg(test)]
 mod sockets;
+mod worked;
+
+pub use worked::worked_cases;

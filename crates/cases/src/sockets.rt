@@ -143,6 +143,29 @@ fn a_new_socket_is_empty_and_in_shutdown(rt: HostRuntime) {
 }
 
 #[test]
+fn the_default_is_the_smallest(rt: HostRuntime) {
+    let smallest = Capacity::default();
+    assert_eq!(rt; smallest.modules(), 1);
+    assert_eq!(rt; smallest.triggers(), 1);
+    let socket = Socket::default();
+    assert_eq!(rt; socket.status(), 128);
+    assert_eq!(rt; socket.outputs(), 2);
+    // each of its registers, and those that a larger socket would have
+    let largest = capacity(&rt, 16, 32);
+    let made = Socket::new(capacity(&rt, 1, 1));
+    for (bank, selects) in [(0, 3), (1, 32), (2, 32), (3, 64)] {
+        for select in 0..selects {
+            assert_eq!(rt;
+                read(&socket, largest, bank, select),
+                read(&made, largest, bank, select)
+            );
+        }
+    }
+    // with one module each trigger leads to module 0
+    assert_eq!(rt; read(&socket, largest, 1, 31), Ok(0));
+}
+
+#[test]
 fn registers_stand_at_banks_and_selects(rt: HostRuntime) {
     let none = Err(Refusal::NoRegister);
     let small = capacity(&rt, 1, 1);

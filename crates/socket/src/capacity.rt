@@ -60,3 +60,15 @@ impl Capacity {
         self.triggers
     }
 }
+
+// The smallest: one module, and one trigger.
+impl Default for Capacity {
+    ghost is_default = { λ k. (k.modules ≡ 1) × (k.triggers ≡ 1) };
+
+    fn default() -> Capacity {
+        Capacity {
+            modules: 1,
+            triggers: 1,
+        }
+    }
+}

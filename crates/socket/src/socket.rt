@@ -1,5 +1,6 @@
 // One socket, and what it shows.
 ghost use Rattle.std.specs.Prelude.{◌≡◌, ◌<◌, unwrap_or};
+ghost use Rattle.socket.specs.declared.capacity.Capacity.{Capacity};
 ghost use Rattle.socket.specs.Laws.{Decodes, Uncoupled};
 ghost use Rattle.socket.specs.Mode.{is_active, shutdown_mode};
 ghost use Rattle.socket.specs.Socket.{fresh_socket, with_level};
@@ -115,5 +116,14 @@ impl Socket {
         ensures { self.new ≡ with_level self.old level }
     {
         self.level = level;
+    }
+}
+
+// A new socket of the smallest capacity.
+impl Default for Socket {
+    ghost is_default = { λ s. (k : Capacity) × (k.modules ≡ 1) × (k.triggers ≡ 1) × (s ≡ fresh_socket k) };
+
+    fn default() -> Socket {
+        Socket::new(Capacity::default())
     }
 }

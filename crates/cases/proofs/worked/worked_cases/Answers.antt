@@ -1,0 +1,5 @@
+use Rattle.cases.proofs.AllCases.{all_cases}
+use Rattle.cases.proofs.worked.worked_cases.Goals as goal
+
+pub returns : goal.returns
+returns c = all_cases

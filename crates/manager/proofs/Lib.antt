@@ -1,0 +1,17 @@
+pub mod Accounts
+pub mod Changes
+pub mod Kept
+pub mod Lawful
+pub mod Laws
+pub mod Makings
+pub mod Numbers
+pub mod Places
+pub mod Plays
+pub mod PortCalls
+pub mod Runs
+pub mod Services
+pub mod SocketOf
+pub mod Sound
+pub mod Stage
+pub mod Stages
+pub mod Ways

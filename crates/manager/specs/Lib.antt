@@ -1,0 +1,13 @@
+pub mod Answers
+pub mod Cabinet
+pub mod Calls
+pub mod Grants
+pub mod Journal
+pub mod Law
+pub mod Making
+pub mod Outcome
+pub mod Play
+pub mod Refusal
+pub mod Requests
+pub mod Sockets
+pub mod StopSteps
