@@ -1,8 +1,10 @@
 -- Where a place stands among the entries of a patch table, and what follows from it.
-use Rattle.std.proofs.Common.{◌≡◌, ℕ, suc, ◌+◌, ◌<◌, ◌≤◌, Bool, true, false, cond, not, List, [], ◌∷◌, ◌++◌, length, drop, position, set, is_some, Some, None, Ok, Err, ◌||◌, nat_lt, Option, sym, refl, ap, ◌∙◌, subst, inl, inr, ◌⊎◌, option_map, arith}
+use Rattle.std.proofs.Common.{◌≡◌, ℕ, suc, ◌+◌, ◌<◌, ◌≤◌, Bool, true, false, cond, not, List, [], ◌∷◌, ◌++◌, length, get_or, drop, position, set, is_some, Some, None, Ok, Err, ◌||◌, nat_lt, Option, sym, refl, ap, ◌∙◌, subst, inl, inr, ◌⊎◌, option_map, arith}
 use Rattle.std.proofs.lemmas.Bool.{cases_lt, cond-false, cond-true, le-ltb, lt-ltb}
 use Rattle.std.proofs.lemmas.List.{length-set, length_push, take_at}
-use Rattle.std.specs.List.{position_or_len, refill}
+use Rattle.std.proofs.lemmas.List.Folds.{find_at}
+use Rattle.std.proofs.lemmas.Option.{slice_get-get_or, slice_get_past}
+use Rattle.std.specs.List.{position_or_len, refill, slice_get}
 use Rattle.library.specs.declared.patch_table.Entry.{Entry}
 use Rattle.library.specs.declared.patch_table.PatchTable.{PatchTable}
 use Rattle.library.specs.declared.refusal.Refusal.TheVariants.{PatchesFull}
@@ -114,3 +116,16 @@ module _ (t : PatchTable) (q w : ℕ) where
       entries = e ∙ no_entry.longer;
       count = ap length e ∙ length_push (kept_entries t) (entry_for q w) ∙ sym (cond-false _ _ _ no_entry.new);
     }
+
+-- the word kept for a place, by the index of its entry
+pub kept_word-position : (es : List Entry) (p : ℕ) → kept_word es p ≡ option_map (λ (i : ℕ). (get_or es i (entry_for 0 0)).word) (position (is_for p) es)
+kept_word-position es p = ap (option_map (λ (e : Entry). e.word)) (find_at (is_for p) es) ∙ by (cases_lt (position_or_len (is_for p) es) (length es))
+  where
+    by : (position_or_len (is_for p) es < length es) ⊎ (length es ≤ position_or_len (is_for p) es) →
+        option_map (λ (e : Entry). e.word) (slice_get es (position_or_len (is_for p) es)) ≡ option_map (λ (i : ℕ). (get_or es i (entry_for 0 0)).word) (position (is_for p) es)
+    by (inl h) =
+        ap (option_map (λ (e : Entry). e.word)) (slice_get-get_or es _ (entry_for 0 0) h) ∙
+        sym (ap (option_map (λ (i : ℕ). (get_or es i (entry_for 0 0)).word)) (cond-true _ _ _ (lt-ltb _ _ h)))
+    by (inr h) =
+        ap (option_map (λ (e : Entry). e.word)) (slice_get_past es _ h) ∙
+        sym (ap (option_map (λ (i : ℕ). (get_or es i (entry_for 0 0)).word)) (cond-false _ _ _ (le-ltb _ _ h)))

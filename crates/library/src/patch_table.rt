@@ -28,20 +28,23 @@ impl PatchTable {
         }
     }
 
-    pub(crate) fn word_at(&self, place: u32) -> Option<u32>
-        ensures { result ≡ kept_word (kept_entries self.now) place }
-    {
-        self.entries
-            .iter()
-            .find(|entry| entry.place == place)
-            .map(|entry| entry.word)
-    }
-
     // The index of the entry for `place`.
     fn position(&self, place: u32) -> Option<usize>
         ensures { result ≡ position (is_for place) (kept_entries self.now) }
     {
-        self.entries.iter().position(|entry| entry.place == place)
+        for (at, entry) in self.entries.as_slice().iter().enumerate() {
+            if entry.place == place {
+                return Some(at);
+            }
+        }
+        None
+    }
+
+    pub(crate) fn word_at(&self, place: u32) -> Option<u32>
+        ensures { result ≡ kept_word (kept_entries self.now) place }
+    {
+        let at = self.position(place)?;
+        Some(self.entries[at].word)
     }
 
     pub(crate) fn keep(&mut self, place: u32, word: u32) -> Result<(), Refusal>

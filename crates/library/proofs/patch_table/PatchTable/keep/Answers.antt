@@ -1,6 +1,6 @@
-use Rattle.std.proofs.Common.{refl, ◌≡◌, ◌++◌, [], ◌∷◌, length, Err, rules, ◌∙◌}
+use Rattle.std.proofs.Common.{refl, ◌≡◌, length, Err, rules, ◌∙◌}
 use Rattle.library.specs.declared.refusal.Refusal.TheVariants.{PatchesFull}
-use Rattle.library.specs.Patch.{entry_for, kept_entries}
+use Rattle.library.specs.Patch.{kept_entries}
 use Rattle.library.proofs.Entries.{appended, full, replaced, taken}
 use Rattle.library.proofs.patch_table.PatchTable.keep.Goals as goal
 
@@ -17,6 +17,4 @@ pub returns-in-Some-clause-after : goal.returns-in-Some-clause-after
 returns-in-Some-clause-after c = replaced c.args.self.now c.args.place c.args.word c.in-Some.at c.in-Some.ensures _ _ c.deref_mut.ensures.value refl
 
 pub returns-in_ok-try_push-in-None-clause-after : goal.returns-in_ok-try_push-in-None-clause-after
-returns-in_ok-try_push-in-None-clause-after c =
-    let items : c.try_push.new.self.items ≡ kept_entries c.args.self.now ++ entry_for c.args.place c.args.word ∷ [] = search rules in
-    appended c.args.self.now c.args.place c.args.word c.in-None.ensures _ items
+returns-in_ok-try_push-in-None-clause-after c = appended c.args.self.now c.args.place c.args.word c.in-None.ensures _ (search rules)
