@@ -126,6 +126,39 @@ fn a_tape_of_no_records_is_spent(rt: HostRuntime) {
     assert_eq!(rt; tape.opened(), None);
 }
 
+// A caller may change a port that it holds by value, and let it go.
+fn loaded_plane(mut plane: Plane<'_>, words: &[u32]) -> usize {
+    let _ = load(&mut plane, 3, words);
+    plane.length(3)
+}
+
+fn loaded_tape(mut tape: Tape<'_>, words: &[u32]) -> usize {
+    let _ = load(&mut tape, 3, words);
+    tape.length(3)
+}
+
+fn loaded_through_a_turn(plane: Plane<'_>, words: &[u32]) -> usize {
+    let mut port = BitTurn::new(plane);
+    let _ = load(&mut port, 3, words);
+    port.length(3)
+}
+
+#[test]
+fn ports_are_changed_by_who_holds_them(rt: HostRuntime) {
+    let mut cells = [0; 16];
+    assert_eq!(rt; loaded_plane(Plane::new(&mut cells), &[1, 2, 3]), 2);
+    assert_eq!(rt; loaded_through_a_turn(Plane::new(&mut cells), &[1]), 1);
+    let mut records = [mark(0); 4];
+    assert_eq!(rt; loaded_tape(Tape::new(&mut records), &[1, 2]), 2);
+    let mut others = [mark(0); 1];
+    let mut tapes = [Tape::new(&mut records), Tape::new(&mut others)];
+    for tape in tapes.iter_mut() {
+        assert_eq!(rt; tape.open(1), Ok(()));
+    }
+    assert_eq!(rt; tapes[0].room(), 3);
+    assert!(rt; tapes[1].is_spent());
+}
+
 #[test]
 fn three_turns_are_one(rt: HostRuntime) {
     let mut cells = [0; 16];

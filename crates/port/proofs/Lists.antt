@@ -1,5 +1,5 @@
 -- A partition's list, read from a tape's last record backwards.
-use Rattle.std.proofs.Common.{◌≡◌, ℕ, ◌-◌, Bool, not, reverse, take-append-drop, length-drop, List, [], ◌∷◌, ◌++◌, length, take, drop, filter_map, refl, sym, ap, ◌∙◌, arith}
+use Rattle.std.proofs.Common.{◌≡◌, ℕ, ◌-◌, Bool, ◌==◌, not, filter, reverse, take-append-drop, length-drop, List, [], ◌∷◌, ◌++◌, length, take, drop, filter_map, refl, sym, ap, ◌∙◌, arith}
 use Rattle.std.proofs.Math.Seq.{drop-append_seam}
 use Rattle.std.proofs.lemmas.Grind.{common_steps}
 use Rattle.std.proofs.lemmas.List.{length-reverse, reverse-append, reverse-reverse}
@@ -12,7 +12,7 @@ use Rattle.port.specs.Marks.{is_mark_of}
 use Rattle.port.specs.Records.{word_for, words_of}
 use Rattle.port.proofs.Tapes.{words_of-push}
 
-abbrev unmarked_by : ℕ → Record → Bool
+abbrev pub unmarked_by : ℕ → Record → Bool
 unmarked_by s r = not (is_mark_of s r)
 
 -- the list of the records from the last to the first
@@ -34,3 +34,14 @@ pub words_of-behind : (s n : ℕ) (rs : List Record) → n ≡ length (take_whil
 words_of-behind s n rs is =
     rw (is, length-prefix_len (unmarked_by s) (reverse rs), drop-reverse (prefix_len (unmarked_by s) (reverse rs)) rs)
     (ap (words_of s) (sym (reverse-reverse rs)) ∙ words_of-reverse s (reverse rs))
+
+abbrev pub is_of : ℕ → Record → Bool
+is_of s r = r.partition == s
+
+-- how long the list is, by the partition's own records from the last to the first
+length-reverse_of : (s : ℕ) (rs : List Record) → length (take_while (unmarked_by s) (filter (is_of s) rs)) ≡ length (words_of s (reverse rs))
+length-reverse_of s [] = refl
+length-reverse_of s (r ∷ rs) = grind (arith, common_steps, words_of-push s (reverse rs) r, take_while-cons (unmarked_by s) r (filter (is_of s) rs), length-reverse_of s rs)
+
+pub length-behind : (s : ℕ) (rs : List Record) → length (take_while (unmarked_by s) (filter (is_of s) (reverse rs))) ≡ length (words_of s rs)
+length-behind s rs = length-reverse_of s (reverse rs) ∙ ap (λ (xs : List Record). length (words_of s xs)) (reverse-reverse rs)

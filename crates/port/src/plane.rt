@@ -1,8 +1,8 @@
 // The caller's words, cut into eight partitions of equal size.
-ghost use Rattle.std.specs.Prelude.{◌≡◌, ℕ, ◌<◌, ◌≤◌, false, replicate, if◌then◌else◌, is_ok, None, slice_index};
-ghost use Rattle.std.specs.Option.{ForSome};
+ghost use Rattle.std.specs.Prelude.{◌≡◌, false, replicate, if◌then◌else◌, is_ok, None};
 ghost use Rattle.port.specs.Meaning.{fresh_port, opens, takes, closes, after_open, after_put, after_close};
 ghost use Rattle.port.specs.Partitions.{Apart, list_of, size_of, with_cell};
+ghost use Rattle.port.specs.Plane.{plane_means};
 ghost use Rattle.port.specs.Steps.{Step, opening, putting, closing};
 
 use crate::port::Port;
@@ -10,20 +10,16 @@ use crate::refused::Refused;
 
 const PARTITIONS: usize = 8;
 
-// The open partition is one of the eight, and no more words are used than a partition has.
+// No ghost field ties the three: beside a `&mut` it would keep callers from changing a plane that they hold by value.
 #[derive(Drop)]
 pub struct Plane<'a> {
     cells: &'a mut [u32],
     // The cells are lent, so how many of each partition are used stands beside them.
     used: [usize; PARTITIONS],
     opened: Option<u32>,
-    ghost one_of_eight: { ForSome opened (λ s. s < 8) },
-    ghost within: { (s : ℕ) → slice_index used s ≤ size_of cells.now },
 }
 
 impl<'a> Plane<'a> {
-    ghost use Rattle.port.specs.Plane.{plane_means};
-
     pub fn new(cells: &'a mut [u32]) -> Plane<'a>
         ensures cells { result.cells.now ≡ cells.old }
         ensures used { result.used ≡ replicate 8 0 }
@@ -51,14 +47,14 @@ impl<'a> Plane<'a> {
         let Some(used) = self.used.get(s as usize) else {
             return &[];
         };
-        let start = s as usize * self.size();
-        &self.cells[start..start + *used]
+        let size = self.size();
+        let start = s as usize * size;
+        &self.cells[start..start + (*used).min(size)]
     }
 }
 
 impl<'a> Port for Plane<'a> {
     ghost use Rattle.std.proofs.Common.{rules};
-    ghost use Rattle.port.specs.Plane.{plane_means};
 
     ghost means = { plane_means };
 
@@ -71,10 +67,9 @@ impl<'a> Port for Plane<'a> {
     }
 
     fn room(&self) -> usize {
-        // A match, since a closure would not know that the partition is one of the eight.
         match self.opened {
-            Some(s) => self.size() - self.used[s as usize],
-            None => 0,
+            Some(s) if s < 8 => self.size().saturating_sub(self.used[s as usize]),
+            _ => 0,
         }
     }
 
@@ -113,10 +108,10 @@ impl<'a> Port for Plane<'a> {
     {
         let s = self.opened.ok_or(Refused)? as usize;
         let size = self.size();
-        let index = self.used[s];
-        if index == size {
+        if s >= PARTITIONS || self.used[s] >= size {
             return Err(Refused);
         }
+        let index = self.used[s];
         self.cells[s * size + index] = word;
         self.used[s] = index + 1;
         Ok(())

@@ -1,5 +1,5 @@
 // The caller's records, filled one after another with marks and words.
-ghost use Rattle.std.specs.Prelude.{◌≡◌, ◌+◌, ◌-◌, ◌<◌, ◌≤◌, [], ◌∷◌, ◌++◌, length, take, if◌then◌else◌, is_ok, None, ◌==◌, slice_get, slice_set, filter_map, not, reverse};
+ghost use Rattle.std.specs.Prelude.{◌≡◌, ◌+◌, ◌-◌, ◌<◌, length, if◌then◌else◌, is_ok, None, ◌==◌, slice_set, filter_map, not, reverse};
 ghost use Rattle.std.specs.List.{take_while};
 ghost use Rattle.std.specs.Option.{unwrap_or};
 ghost use Rattle.port.specs.declared.tape_record.Content.TheVariants.{Mark, Word};
@@ -7,25 +7,22 @@ ghost use Rattle.port.specs.Marks.{BetweenMarks, is_mark_of};
 ghost use Rattle.port.specs.Meaning.{fresh_port, opens, takes, closes, after_open, after_put, after_close};
 ghost use Rattle.port.specs.Records.{word_for, words_of};
 ghost use Rattle.port.specs.Steps.{Step, opening, putting, closing};
+ghost use Rattle.port.specs.Tape.{Grows, free_of, tape_means, used_records, with_record};
 
 use crate::port::Port;
 use crate::refused::Refused;
 use crate::tape_record::{Content, Record};
 
-// Each list is the words between two marks, and the open partition was marked last.
+// No ghost field, as in a plane: beside a `&mut` it would keep callers from changing a tape that they hold by value.
 #[derive(Drop)]
 pub struct Tape<'a> {
     records: &'a mut [Record],
     // The records are lent, so how many are used stands beside them.
     used: usize,
     opened: Option<u32>,
-    ghost within: { used ≤ length records.now },
-    ghost between_marks: { BetweenMarks opened (take used records.now) },
 }
 
 impl<'a> Tape<'a> {
-    ghost use Rattle.port.specs.Tape.{free_of, tape_means, used_records};
-
     pub fn new(records: &'a mut [Record]) -> Tape<'a>
         ensures records { result.records.now ≡ records.old }
         ensures used { result.used ≡ 0 }
@@ -44,13 +41,12 @@ impl<'a> Tape<'a> {
     fn free(&self) -> usize
         ensures { result ≡ free_of self.now }
     {
-        self.records.len() - self.used
+        self.records.len().saturating_sub(self.used)
     }
 
     // Writes the next record.
     fn write(&mut self, partition: u32, content: Content)
-        requires room { self.old.used < length self.old.records.now }
-        requires between_marks { BetweenMarks self.old.opened (used_records self.old ++ record { partition = partition; content = content } ∷ []) }
+        requires { self.old.used < length self.old.records.now }
         ensures records { self.new.records.now ≡ slice_set self.old.records.now self.old.used (record { partition = partition; content = content }) }
         ensures used { self.new.used ≡ self.old.used + 1 }
         ensures opened { self.new.opened ≡ self.old.opened }
@@ -59,11 +55,19 @@ impl<'a> Tape<'a> {
         self.used += 1;
     }
 
+    // The records in use, which are the first.
+    fn used_records(&self) -> &[Record]
+        ensures { result.now ≡ used_records self.now }
+    {
+        let count = self.used.min(self.records.len());
+        &self.records[..count]
+    }
+
     // How many used records stand behind the last mark of partition `s`.
     fn behind(&self, s: u32) -> usize
         ensures { result ≡ length (take_while (λ r. not (is_mark_of s r)) (reverse (used_records self.now))) }
     {
-        let used = &self.records[..self.used];
+        let used = self.used_records();
         used.iter().rev().take_while(|r| !r.marks(s)).count()
     }
 
@@ -71,14 +75,13 @@ impl<'a> Tape<'a> {
     fn list(&self, s: u32) -> &[Record]
         ensures { words_of s (used_records self.now) ≡ filter_map (word_for s) result.now }
     {
-        let used = &self.records[..self.used];
+        let used = self.used_records();
         &used[used.len() - self.behind(s)..]
     }
 }
 
 impl<'a> Port for Tape<'a> {
     ghost use Rattle.std.proofs.Common.{rules};
-    ghost use Rattle.port.specs.Tape.{Grows, free_of, tape_means, used_records, with_record};
 
     ghost means = { tape_means };
 
@@ -102,17 +105,17 @@ impl<'a> Port for Tape<'a> {
         self.free() == 0
     }
 
-    fn length(&self, s: u32) -> usize
-        ensures value { result ≡ length (words_of s (used_records self.now)) }
-        ensures between_marks { BetweenMarks self.now.opened (used_records self.now) }
-    {
-        self.list(s).iter().filter_map(|r| r.word_for(s)).count()
+    // The records of `s` from the last one backwards, as far as its last mark.
+    fn length(&self, s: u32) -> usize {
+        let used = self.used_records();
+        used.iter()
+            .rev()
+            .filter(|r| r.partition == s)
+            .take_while(|r| !r.marks(s))
+            .count()
     }
 
-    fn word(&self, s: u32, index: usize) -> Option<u32>
-        ensures value { result ≡ slice_get (words_of s (used_records self.now)) index }
-        ensures between_marks { BetweenMarks self.now.opened (used_records self.now) }
-    {
+    fn word(&self, s: u32, index: usize) -> Option<u32> {
         self.list(s).iter().filter_map(|r| r.word_for(s)).nth(index)
     }
 
@@ -122,6 +125,7 @@ impl<'a> Port for Tape<'a> {
         ensures meaning { tape_means self.new ≡ (if opens (tape_means self.old) s then after_open s (free_of self.old - 1) (free_of self.old - 1 == 0) (tape_means self.old) else tape_means self.old) }
         ensures buffer { self.new.records.now ≡ with_record (is_ok result) self.old s Mark }
         ensures used { self.new.used ≡ (if is_ok result then self.old.used + 1 else self.old.used) }
+        ensures between_marks { BetweenMarks self.old.opened (used_records self.old) → BetweenMarks self.new.opened (used_records self.new) }
         ensures grows { Grows self.old self.new }
     {
         if self.opened.is_some() || s >= self.partitions() || self.is_spent() {
@@ -138,6 +142,7 @@ impl<'a> Port for Tape<'a> {
         ensures meaning { tape_means self.new ≡ (if takes (tape_means self.old) then after_put word (free_of self.old - 1 == 0) (tape_means self.old) else tape_means self.old) }
         ensures buffer { self.new.records.now ≡ with_record (is_ok result) self.old (unwrap_or self.old.opened 0) (Word word) }
         ensures used { self.new.used ≡ (if is_ok result then self.old.used + 1 else self.old.used) }
+        ensures between_marks { BetweenMarks self.old.opened (used_records self.old) → BetweenMarks self.new.opened (used_records self.new) }
         ensures grows { Grows self.old self.new }
     {
         let s = self.opened.ok_or(Refused)?;
@@ -154,6 +159,7 @@ impl<'a> Port for Tape<'a> {
         ensures meaning { tape_means self.new ≡ (if closes (tape_means self.old) then after_close (free_of self.old == 0) (tape_means self.old) else tape_means self.old) }
         ensures buffer { self.new.records.now ≡ self.old.records.now }
         ensures used { self.new.used ≡ self.old.used }
+        ensures between_marks { BetweenMarks self.old.opened (used_records self.old) → BetweenMarks self.new.opened (used_records self.new) }
         ensures grows { Grows self.old self.new }
     {
         self.opened.take().ok_or(Refused)?;

@@ -29,9 +29,12 @@ impl Record {
     pub(crate) fn word_for(&self, s: u32) -> Option<u32>
         ensures { result ≡ word_for s self.now }
     {
+        if self.partition != s {
+            return None;
+        }
         match self.content {
-            Content::Word(word) if self.partition == s => Some(word),
-            _ => None,
+            Content::Mark => None,
+            Content::Word(word) => Some(word),
         }
     }
 }

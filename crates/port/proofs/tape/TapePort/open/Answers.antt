@@ -1,4 +1,4 @@
-use Rattle.std.proofs.Common.{◌≡◌, None, Some, rules}
+use Rattle.std.proofs.Common.{Some, rules}
 use Rattle.std.proofs.lemmas.List.{take_more_set}
 use Rattle.port.specs.declared.tape_record.Content.TheVariants.{Mark}
 use Rattle.port.specs.Tape.{used_records}
@@ -6,14 +6,8 @@ use Rattle.port.proofs.Marked.{entry_of}
 use Rattle.port.proofs.Tapes.{mark_between}
 use Rattle.port.proofs.tape.TapePort.open.Goals as goal
 
-pub write-requires-clause-between_marks : goal.write-requires-clause-between_marks
-write-requires-clause-between_marks c =
-    let t = c.args.self.now in
-    let none : t.opened ≡ None = search rules in
-    mark_between c.args.s (used_records t) t.opened t.opened t.between_marks (λ x is. cc)
-
-pub invariant_of-self-clause-between_marks : goal.invariant_of-self-clause-between_marks
-invariant_of-self-clause-between_marks c =
+pub returns-clause-between_marks : goal.returns-clause-between_marks
+returns-clause-between_marks c = λ before.
     let t = c.args.self.now in
     rw (c.write.ensures.records, c.write.ensures.used, take_more_set t.records.now t.used (entry_of c.args.s Mark) (search rules))
-    (mark_between c.args.s (used_records t) t.opened (Some c.args.s) t.between_marks (λ x is. cc))
+    (mark_between c.args.s (used_records t) t.opened (Some c.args.s) before (λ x is. cc))

@@ -6,8 +6,8 @@ use Rattle.std.proofs.lemmas.Iterator.Adapters.{option_map_id}
 use Rattle.port.specs.Records.{word_for}
 use Rattle.port.proofs.tape.TapePort.word.Goals as goal
 
-pub returns-clause-value : goal.returns-clause-value
-returns-clause-value c =
+pub returns : goal.returns
+returns c =
     let is =
     nth_from_yields_List c.nth.result _ _ c.nth.ensures.ran
     (YieldsList-from_filter_map _ (word_for c.args.s) (YieldsList-from_slice c.list.result.now cc) c.filter_map.ensures.closure (λ x r q k. search (rules, tests))) in
